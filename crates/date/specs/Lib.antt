@@ -1,0 +1,5 @@
+pub mod Fields
+pub mod Refusals
+pub mod Days
+pub mod Dated
+pub mod Order
