@@ -1,0 +1,4 @@
+pub mod Meaning
+pub mod Piles
+pub mod Parties
+pub mod Carrying
