@@ -110,6 +110,16 @@ earlier-key d e =
     (placed 4096 (d .mark) (e .mark) (key-day d) (key-day e) _ (l .month) (k .month)
     (placed 64 (d .month) (e .month) (d .day) (e .day) _ (l .day) (k .day) refl)))
 
+-- the key as a sum of places, the year's part a number of its own
+pub record Keyed (d : Date) : Type 0 where
+  pub part : ℕ
+  pub part-is : pos part ≡ d .year +ℤ pos 9999
+  pub key-is : key d ≡ d .era * 1073741824 + (part * 8192 + (d .mark * 4096 + (d .month * 64 + d .day)))
+
+pub keyed : (d : Date) → Keyed d
+unfolding key key-year key-mark key-day
+keyed d = record { part = shifted (d .year); part-is = shifted-is (d .year) (date-ranged d .year-from); key-is = refl }
+
 pub before : (d e : Date) → earlier d e ≡ true → key d < key e
 before d e h = ltb-true (key d) (key e) (sym (earlier-key d e) ∙ h)
 

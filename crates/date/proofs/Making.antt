@@ -4,14 +4,16 @@ use native.Mathlib.Omega.{arith}
 use mathlib.Core.Bool.{Bool, true, false, Bool-set}
 use mathlib.Core.Path.{_≡_, refl, sym, _∙_, ap, subst}
 use lib.IntN.{ℤ, pos, natAbs}
-use Rattle.std.proofs.shelf.Tests.{true≢false, eq-eqb, ne-eqb}
+use lib.Signed.{leZ, _≤ℤ_}
+use Rattle.std.proofs.shelf.Signed.{ints}
+use Rattle.std.proofs.shelf.Tests.{true≢false, eq-eqb, ne-eqb, and-from, cond-true}
 use Rattle.std.specs.declared.result.Result.the-variants.{Ok, Err}
 use Rattle.date.specs.declared.dates.Date.{Date}
 use Rattle.date.specs.declared.faults.Cause.the-variants.{Field}
 use Rattle.date.specs.Dated.{dated, dated-by, the-date, whole, fitting}
-use Rattle.date.specs.Fields.{misfit, fits}
+use Rattle.date.specs.Fields.{between, misfit, fits}
 use Rattle.date.specs.Refusals.{refusal}
-use Rattle.date.proofs.Keys.{same-date}
+use Rattle.date.proofs.Keys.{Ranged, same-date}
 
 -- a date is made of its own numbers
 pub dated-is : (x : Date) (e y k m d : ℤ) → pos (x .era) ≡ e → x .year ≡ y → pos (x .mark) ≡ k → pos (x .month) ≡ m → pos (x .day) ≡ d → dated e y k m d ≡ Ok x
@@ -24,6 +26,20 @@ dated-is x e y k m d p q r s t = by (fits e y k m d) refl
     by : (b : Bool) (f : fits e y k m d ≡ b) → dated-by e y k m d b f ≡ Ok x
     by true f = ap Ok (same-date (the-date e y k m d f) x (ap natAbs (sym p)) (sym q) (ap natAbs (sym r)) (ap natAbs (sym s)) (ap natAbs (sym t)))
     by false f = absurd (true≢false (sym h ∙ f))
+
+-- numbers in their ranges make a date
+between-from : (from to n : ℤ) → from ≤ℤ n → n ≤ℤ to → between from to n ≡ true
+between-from from to n h k = and-from (leZ from n) (leZ n to) (sym (omega (arith, ints))) (sym (omega (arith, ints)))
+
+pub date-of : (e y k m d : ℤ) → Ranged e y k m d → (x : Date) × (dated e y k m d ≡ Ok x)
+date-of e y k m d r =
+    let a = between-from _ _ e (r .era-from) (r .era-to) in
+    let b = between-from _ _ y (r .year-from) (r .year-to) in
+    let c = between-from _ _ k (r .mark-from) (r .mark-to) in
+    let g = between-from _ _ m (r .month-from) (r .month-to) in
+    let t = between-from _ _ d (r .day-from) (r .day-to) in
+    let h : fits e y k m d ≡ true = eq-eqb _ _ (cond-true _ _ _ a ∙ cond-true _ _ _ b ∙ cond-true _ _ _ c ∙ cond-true _ _ _ g ∙ cond-true _ _ _ t) in
+    (the-date e y k m d h, dated-is (the-date e y k m d h) e y k m d (whole 0 _ e a) refl (whole 0 _ k c) (whole 1 _ m g) (whole 1 _ d t))
 
 -- numbers that do not fit are refused at the first that is out
 pub dated-misfit : (e y k m d : ℤ) → (misfit e y k m d ≡ 0 → ⊥) → dated e y k m d ≡ Err (refusal Field (misfit e y k m d) (pos 0) 0)
