@@ -1,3 +1,4 @@
 pub mod Keys
 pub mod Making
+pub mod Divisions
 pub mod Comparing

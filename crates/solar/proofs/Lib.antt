@@ -1,0 +1,3 @@
+pub mod CivilMonths
+pub mod GregorianYears
+pub mod JulianYears

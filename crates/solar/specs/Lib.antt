@@ -1,0 +1,3 @@
+pub mod Civil
+pub mod Gregorian
+pub mod Julian

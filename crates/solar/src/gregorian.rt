@@ -1,0 +1,80 @@
+ghost use mathlib.Core.Path.{_≡_};
+ghost use lib.IntN.{pos, negsuc};
+ghost use lib.Signed.{_≤ℤ_};
+ghost use Rattle.solar.specs.Gregorian.{leap, before-year, gregorian as gregorian-rule};
+use crate::civil;
+use calendar::calendar::Kind;
+use date::division::divide;
+use reckoning::reckoning::Reckoning;
+
+#[derive(Clone, Copy)]
+pub struct Gregorian;
+
+pub impl Kind for Gregorian as GregorianKind {
+    const KIND: u8 = 1;
+}
+
+// Every fourth year, but of the centuries every fourth.
+fn is_leap(year: i32) -> bool
+    requires { ⌜ pos 0 ≤ℤ year ⌝ }
+    ensures { λ r. ⌜ r ≡ leap year ⌝ }
+{
+    let year = year as u64;
+    divide(year, 4).1 == 0 && (divide(year, 100).1 != 0 || divide(year, 400).1 == 0)
+}
+
+// The days before the year.
+fn days_before(year: i32) -> i32
+    requires { ⌜ pos 1 ≤ℤ year ⌝ ∗ ⌜ year ≤ℤ pos 99999 ⌝ }
+    ensures { λ r. ⌜ r ≡ before-year year ⌝ }
+{
+    let years = (year - 1) as u64;
+    let fourths = divide(years, 4).0;
+    let centuries = divide(years, 100).0;
+    let cycles = divide(years, 400).0;
+    (365 * years + fourths + cycles - centuries) as i32
+}
+
+pub impl Reckoning for Gregorian as GregorianReckoning {
+    ghost rule = { λ _. gregorian-rule };
+
+    fn kind(&self) -> u8 {
+        Gregorian::KIND
+    }
+
+    fn first(&self) -> i32 {
+        civil::FIRST
+    }
+
+    fn last(&self) -> i32 {
+        civil::LAST
+    }
+
+    fn last_day(&self) -> i32 {
+        36_523_884
+    }
+
+    fn months(&self, year: i32) -> u8 {
+        civil::MONTHS
+    }
+
+    fn length(&self, year: i32, month: u8) -> u8 {
+        civil::days_in(is_leap(year), month)
+    }
+
+    fn new_year(&self, year: i32) -> i32 {
+        days_before(year)
+    }
+
+    fn elapsed(&self, year: i32, month: u8) -> u16 {
+        civil::days_before(is_leap(year), month)
+    }
+
+    fn year_near(&self, day: i32) -> i32 {
+        (divide(400 * day as u64, 146_097).0 + 1) as i32
+    }
+
+    fn month_near(&self, year: i32, nth: u16) -> u8 {
+        civil::month_near(nth)
+    }
+}
