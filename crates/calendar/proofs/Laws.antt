@@ -3,18 +3,17 @@ use Prim.Native.Nat.{ℕ}
 use native.Mathlib.Omega.{arith}
 use mathlib.Core.Bool.{Bool, true, false}
 use mathlib.Core.Logic.{⊎-elim}
-use mathlib.Core.Path.{_≡_, refl, sym, ap, _∙_}
-use lib.IntN.{ℤ, pos, _-ℤ_}
-use lib.Signed.{_≤ℤ_}
+use mathlib.Core.Path.{_≡_, refl, sym}
+use lib.IntN.{ℤ}
 use Rattle.std.proofs.shelf.Tests.{cases-bool}
+use Rattle.std.specs.Vec.{made}
 use Rattle.std.specs.declared.result.Result.{Result}
 use Rattle.std.specs.declared.result.Result.the-variants.{Ok, Err}
 use Rattle.date.specs.declared.dates.Date.{Date}
 use Rattle.date.specs.declared.faults.Fault.{Fault}
 use Rattle.date.specs.Days.{within}
-use Rattle.date.proofs.Keys.{in-between}
 use Rattle.calendar.specs.declared.refusing.Party.{Party}
-use Rattle.calendar.specs.Carrying.{spanned}
+use Rattle.calendar.specs.declared.refusing.Refused.{Refused}
 use Rattle.calendar.specs.Meaning.{Meaning, Lawful}
 use Rattle.calendar.specs.Parties.{told-by}
 use Rattle.calendar.specs.Piles.{Pile, calendar, meaning, Sound}
@@ -33,20 +32,12 @@ dated-within m law n d h = ⊎-elim (λ e. e) (λ e. ok-not-err (m .on n) d _ h 
 pub found-within : (m : Meaning) → Lawful m → (n : ℤ) (d : Date) → m .of d ≡ Ok n → within n ≡ true
 found-within m law n d h = dated-within m law n d (law .exact n d .1 h)
 
--- the day found of a date lies between the first and the last
-pub day-between : (p : Pile) → Sound p → (n : ℤ) (d : Date) → meaning p .of d ≡ Ok n → (pos 1 ≤ℤ n) × (n ≤ℤ pos 3652059)
-day-between p s n d h = in-between (pos 1) (pos 3652059) n (found-within (meaning p) (lawful p s) n d h)
-
 -- an answer told as a party's is the answer
 pub told-ok : {X : Type 0} (p : Party) (r : Result X Fault) (x : X) → told-by p r ≡ Ok x → r ≡ Ok x
 told-ok p (Ok y) x h = cc
 told-ok p (Err f) x h = ok-not-err _ x _ h refl
 
--- the day that a pile finds of a date, as a party's answer
-pub found : (p : Pile) → Sound p → (q : Party) (r : Result ℤ Fault) (n : ℤ) (d : Date) → r ≡ meaning p .of d → Ok n ≡ told-by q r → (meaning p .of d ≡ Ok n) × ((pos 1 ≤ℤ n) × (n ≤ℤ pos 3652059))
-found p s q r n d e h =
-    let o : meaning p .of d ≡ Ok n = sym e ∙ told-ok q r n (sym h) in
-    (o, day-between p s n d o)
-
-pub span-is : (m k : Meaning) (d e : Date) (n i x : ℤ) → m .of d ≡ Ok n → k .of e ≡ Ok i → x ≡ i -ℤ n → Ok x ≡ spanned m k d e
-span-is m k d e n i x h j q = rw (h, j) (ap Ok q)
+-- the day that a pile finds of a date is in the range, as a party's answer too
+pub found-inside : (p : Pile) → Sound p → (q : Party) (d : Date) (r : Result ℤ Refused) → r ≡ told-by q (meaning p .of d) → made r (λ n. within n ≡ true)
+found-inside p s q d (Ok n) h = found-within (meaning p) (lawful p s) n d (told-ok q (meaning p .of d) n (sym h))
+found-inside p s q d (Err f) h = tt

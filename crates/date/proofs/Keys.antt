@@ -15,12 +15,17 @@ use Rattle.std.proofs.shelf.Ways.{tells}
 use Rattle.std.proofs.shelf.Tests.{cases-order, ltb-true, lt-ltb, le-ltb, ltb-false}
 use Rattle.date.specs.declared.dates.Date.{Date}
 use Rattle.date.specs.Dated.{Fitting, fitting}
+use Rattle.date.specs.Days.{within, first-day, last-day}
 use Rattle.date.specs.Fields.{between, fits}
 use Rattle.date.specs.Order.{earlier, by-nat, by-int, Strict-total}
 
 -- a test of a range, as orders
 pub in-between : (from to n : ℤ) → between from to n ≡ true → (from ≤ℤ n) × (n ≤ℤ to)
 in-between from to n h = (grind (arith, ints, tells), grind (arith, ints, tells))
+
+-- a day of the range
+pub day-between : (n : ℤ) → within n ≡ true → (first-day ≤ℤ n) × (n ≤ℤ last-day)
+day-between n h = in-between first-day last-day n h
 
 -- what the ranges say of five numbers, as orders
 pub record Ranged (e y k m d : ℤ) : Type 0 where

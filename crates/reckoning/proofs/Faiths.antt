@@ -8,7 +8,8 @@ use lib.Dec.{leb, eqb}
 use lib.IntN.{ℤ, pos, _+ℤ_, _-ℤ_, natAbs}
 use lib.Signed.{ltZ, leZ, _<ℤ_, _≤ℤ_}
 use Rattle.std.proofs.shelf.Signed.{ints}
-use Rattle.std.proofs.shelf.Tests.{and-parts, and-from, eqb-true, eq-eqb, leb-true, le-leb, cond-true, cond-false}
+use Rattle.std.proofs.shelf.Tests.{and-parts, and-from, eqb-true, eq-eqb, ne-eqb, leb-true, le-leb, cond-true, cond-false}
+use Rattle.std.proofs.shelf.Ways.{tells}
 use Rattle.std.specs.declared.result.Result.{Result}
 use Rattle.std.specs.declared.result.Result.the-variants.{Ok, Err}
 use Rattle.calendar.specs.Meaning.{Lawful}
@@ -22,7 +23,7 @@ use Rattle.date.proofs.Keys.{key, date-ranged, keyed, from-before, same-date}
 use Rattle.date.proofs.Making.{made, dated-is, date-of}
 use Rattle.reckoning.specs.Faith.{Faithful}
 use Rattle.reckoning.specs.Held.{Holds-year, Holds-month}
-use Rattle.reckoning.specs.Reckoned.{Names, reckoned, on, of, misdated, counted, has-year, has-month, dated-in, dated-on, year-on, month-on}
+use Rattle.reckoning.specs.Reckoned.{Names, reckoned, on, of, misdated, counted, has-year, month-days, dated-in, dated-on, year-on, month-on}
 use Rattle.reckoning.specs.Rules.{Rule, Sound, InYears, InMonths, last-year, end}
 use Rattle.reckoning.proofs.Orders.{is-lt, is-le, lt-is, le-is}
 use Rattle.reckoning.proofs.Theory.{Valid, day-at, Before, Same, day-in, later, compare, unique, year-found, month-found, there}
@@ -45,27 +46,36 @@ pub record Checked (r : Rule) (d : Date) : Type 0 where
   pub month : InMonths r (d .year) (d .month)
   pub to : d .day ≤ r .length (d .year) (d .month)
 
+-- a month of some days is one of the year's
+has-days : (a b k t : ℕ) → 1 ≤ t → eqb (cond (leb a b) k 0) 0 ≡ false → leb t (cond (leb a b) k 0) ≡ true → (a ≤ b) × (t ≤ k)
+has-days a b k t f h l = (grind (arith, tells), grind (arith, tells))
+
 pub checked : (r : Rule) (d : Date) → misdated r d ≡ 0 → Checked r d
 checked r d h =
     let f = date-ranged d in
     let a = passed (eqb (d .era) 0) _ _ h in
     let b = passed (has-year r (d .year)) _ _ (a .1) in
     let c = passed (eqb (d .mark) 0) _ _ (b .1) in
-    let e = passed (has-month r (d .year) (d .month)) _ _ (c .1) in
-    let g = passed (leb (d .day) (r .length (d .year) (d .month))) _ _ (e .1) in
+    let e = failed (eqb (month-days r (d .year) (d .month)) 0) _ _ (c .1) in
+    let g = passed (leb (d .day) (month-days r (d .year) (d .month))) _ _ (e .1) in
     let y = and-parts _ _ (b .0) in
-    let m = and-parts _ _ (e .0) in
-    record { era = eqb-true _ _ (a .0); mark = eqb-true _ _ (c .0); year = record { from = le-is _ _ (y .0); to = le-is _ _ (y .1) }; month = record { from = omega (arith, ints); to = leb-true _ _ (m .0) }; to = leb-true _ _ (g .0) }
+    let m = has-days (d .month) (r .months (d .year)) (r .length (d .year) (d .month)) (d .day) (omega (arith, ints)) (e .0) (g .0) in
+    record { era = eqb-true _ _ (a .0); mark = eqb-true _ _ (c .0); year = record { from = le-is _ _ (y .0); to = le-is _ _ (y .1) }; month = record { from = omega (arith, ints); to = m .0 }; to = m .1 }
+  where
+    failed : (t : Bool) (k x : ℕ) → cond t (suc k) x ≡ 0 → (t ≡ false) × (x ≡ 0)
+    failed true k x q = absurd (omega arith)
+    failed false k x q = (refl, q)
 
 pub unchecked : (r : Rule) (d : Date) → Checked r d → misdated r d ≡ 0
 unchecked r d c =
     let f = date-ranged d in
-    let some : 1 ≤ r .length (d .year) (d .month) = (let t = c .to in omega (arith, ints)) in
+    let t = c .to in
+    let days : month-days r (d .year) (d .month) ≡ r .length (d .year) (d .month) = cond-true _ _ _ (le-leb _ _ (c .month .to)) in
     cond-true _ _ _ (eq-eqb _ _ (c .era))
     ∙ cond-true _ _ _ (and-from _ _ (is-le _ _ (c .year .from)) (is-le _ _ (c .year .to)))
     ∙ cond-true _ _ _ (eq-eqb _ _ (c .mark))
-    ∙ cond-true _ _ _ (and-from _ _ (le-leb _ _ (c .month .to)) (le-leb _ _ some))
-    ∙ cond-true _ _ _ (le-leb _ _ (c .to))
+    ∙ cond-false _ _ _ (ne-eqb (month-days r (d .year) (d .month)) 0 (λ z. omega (arith, ints)))
+    ∙ cond-true _ _ _ (le-leb (d .day) (month-days r (d .year) (d .month)) (omega (arith, ints)))
 
 of-out : (r : Rule) (n : ℤ) (d : Date) → of r d ≡ Ok n → (within n ≡ true) × Names r d n
 unfolding of

@@ -31,14 +31,15 @@ pub record Names (r : Rule) (d : Date) (n : ℤ) : Type 0 where
 abbrev pub has-year : Rule → ℤ → Bool
 has-year r y = leZ (r .first) y && leZ y (last-year r)
 
--- a month of no days is none of the year's
-abbrev pub has-month : Rule → ℤ → ℕ → Bool
-has-month r y m = leb m (r .months y) && leb 1 (r .length y m)
+-- the days of a month of the year, and none of a month that the year does not have
+abbrev pub month-days : Rule → ℤ → ℕ → ℕ
+month-days r y m = cond (leb m (r .months y)) (r .length y m) 0
 
--- the number of the first field of a date that the rule does not have, and 0 where it has them all
+-- the number of the first field of a date that the rule does not have, and 0 where it has them all; a month of no days is
+-- none of the year's
 abbrev pub misdated : Rule → Date → ℕ
 misdated r d =
-    cond (eqb (d .era) 0) (cond (has-year r (d .year)) (cond (eqb (d .mark) 0) (cond (has-month r (d .year) (d .month)) (cond (leb (d .day) (r .length (d .year) (d .month))) 0 5) 4) 3) 2) 1
+    cond (eqb (d .era) 0) (cond (has-year r (d .year)) (cond (eqb (d .mark) 0) (cond (eqb (month-days r (d .year) (d .month)) 0) 4 (cond (leb (d .day) (month-days r (d .year) (d .month))) 0 5)) 3) 2) 1
 
 -- the day that a date counts to, if it is in the range
 abbrev pub counted : Rule → ℤ → Result ℤ Fault

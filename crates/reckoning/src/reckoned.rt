@@ -1,14 +1,14 @@
 ghost use mathlib.Core.Bool.{true};
 ghost use mathlib.Core.Path.{_≡_};
-ghost use Prim.Native.Nat.{ℕ, _≤_};
-ghost use lib.IntN.{ℤ, pos, _+ℤ_};
+ghost use Prim.Native.Nat.{_≤_};
+ghost use lib.IntN.{pos, _+ℤ_};
 ghost use lib.Signed.{_≤ℤ_, _<ℤ_};
-ghost use Rattle.calendar.specs.Piles.{Pile, calendar as calendar-of, meaning};
+ghost use Rattle.calendar.specs.Piles.{calendar as calendar-of};
 ghost use Rattle.date.specs.Days.{within};
 ghost use Rattle.reckoning.specs.Faith.{Faithful};
 ghost use Rattle.reckoning.specs.Held.{Holds-year, Holds-month};
-ghost use Rattle.reckoning.specs.Reckoned.{reckoned as reckoned-by, misdated as misdated-by, Names, dated-on};
-ghost use Rattle.reckoning.specs.Rules.{Rule, end as last-of};
+ghost use Rattle.reckoning.specs.Reckoned.{reckoned as reckoned-by, misdated as misdated-by, has-year, month-days, dated-on, on, of};
+ghost use Rattle.reckoning.specs.Rules.{end as last-of};
 use crate::reckoning::Reckoning;
 use calendar::calendar::Calendar;
 use date::dates::Date;
@@ -78,6 +78,24 @@ fn find<R: Reckoning>(r: &R, day: i32) -> Result<Date, Fault>
     Date::new(0, i64::from(year), 0, i64::from(month), i64::from(of_month))
 }
 
+fn has_year<R: Reckoning>(r: &R, year: i32) -> bool
+    ensures { λ a. ⌜ a ≡ has-year (rule (now (r .entry))) year ⌝ }
+{
+    r.first() <= year && year <= r.last()
+}
+
+// The days of a month of the year, and none of a month that the year does not have.
+fn days_in<R: Reckoning>(r: &R, year: i32, month: u8) -> u8
+    requires { ⌜ has-year (rule (now r)) year ≡ true ⌝ ∗ ⌜ 1 ≤ month ⌝ }
+    ensures { λ a. ⌜ a ≡ month-days (rule (now (r .entry))) year month ⌝ }
+{
+    if month <= r.months(year) {
+        r.length(year, month)
+    } else {
+        0
+    }
+}
+
 // The number of the first field of the date that the rule does not have, and 0 where it has them all.
 fn misdated<R: Reckoning>(r: &R, date: &Date) -> usize
     ensures { λ a. ⌜ a ≡ misdated-by (rule (now (r .entry))) (now (date .entry)) ⌝ }
@@ -85,22 +103,17 @@ fn misdated<R: Reckoning>(r: &R, date: &Date) -> usize
     if date.era() != 0 {
         return 1;
     }
-    let year = date.year();
-    if year < r.first() || r.last() < year {
+    if !has_year(r, date.year()) {
         return 2;
     }
     if date.mark() != 0 {
         return 3;
     }
-    let month = date.month();
-    if r.months(year) < month {
+    let days = days_in(r, date.year(), date.month());
+    if days == 0 {
         return 4;
     }
-    let length = r.length(year, month);
-    if length == 0 {
-        return 4;
-    }
-    if length < date.day() {
+    if date.day() > days {
         return 5;
     }
     0
@@ -115,30 +128,42 @@ fn count<R: Reckoning>(r: &R, date: &Date) -> i32
     r.new_year(year) + i32::from(r.elapsed(year, date.month())) + i32::from(date.day())
 }
 
+// The date that a day carries by the rule.
+fn date_by<R: Reckoning>(r: &R, day: i32) -> Result<Date, Fault>
+    ensures { λ a. ⌜ a ≡ on (rule (now (r .entry))) day ⌝ }
+{
+    if !in_range(day) {
+        return Err(Fault::new(Cause::OutsideRange, 0, 0, r.kind()));
+    }
+    if day <= r.new_year(r.first()) || day > r.last_day() {
+        return Err(Fault::new(Cause::NoDate, 0, 0, r.kind()));
+    }
+    find(r, day)
+}
+
+// The day that carries a date by the rule.
+fn day_by<R: Reckoning>(r: &R, date: Date) -> Result<i32, Fault>
+    ensures { λ a. ⌜ a ≡ of (rule (now (r .entry))) date ⌝ }
+{
+    let place = misdated(r, &date);
+    if place > 0 {
+        return Err(Fault::new(Cause::Field, place, 0, r.kind()));
+    }
+    let day = count(r, &date);
+    if !in_range(day) {
+        return Err(Fault::new(Cause::OutsideRange, 0, day, r.kind()));
+    }
+    Ok(day)
+}
+
 pub impl<R: Reckoning> Calendar for Reckoned<R> as ReckonedCalendar {
     ghost pile = { λ c. calendar-of (reckoned-by (R·Reckoning .rule (c .by))) };
 
     fn date_on(&self, day: i32) -> Result<Date, Fault> {
-        let kind = self.by.kind();
-        if !in_range(day) {
-            return Err(Fault::new(Cause::OutsideRange, 0, 0, kind));
-        }
-        if day <= self.by.new_year(self.by.first()) || day > self.by.last_day() {
-            return Err(Fault::new(Cause::NoDate, 0, 0, kind));
-        }
-        find(&self.by, day)
+        date_by(&self.by, day)
     }
 
     fn day_of(&self, date: Date) -> Result<i32, Fault> {
-        let kind = self.by.kind();
-        let place = misdated(&self.by, &date);
-        if place > 0 {
-            return Err(Fault::new(Cause::Field, place, 0, kind));
-        }
-        let day = count(&self.by, &date);
-        if !in_range(day) {
-            return Err(Fault::new(Cause::OutsideRange, 0, day, kind));
-        }
-        Ok(day)
+        day_by(&self.by, date)
     }
 }

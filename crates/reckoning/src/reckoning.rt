@@ -45,7 +45,7 @@ pub trait Reckoning {
         requires { ⌜ InYears (rule (now self)) year ⌝ ∗ ⌜ InMonths (rule (now self)) year month ⌝ }
         ensures { λ a. ⌜ rule (now (self .entry)) .start year month ≡ rule (now (self .entry)) .start year 1 +ℤ pos a ⌝ };
 
-    // A year near that of the day: where the search begins. No answer depends on it.
+    // A year near that of the day: where the corrections begin. No answer depends on it.
     fn year_near(&self, day: i32) -> i32
         requires { ⌜ within day ≡ true ⌝ };
 

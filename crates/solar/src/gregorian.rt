@@ -1,6 +1,7 @@
 ghost use mathlib.Core.Path.{_≡_};
 ghost use lib.IntN.{pos, negsuc};
 ghost use lib.Signed.{_≤ℤ_};
+ghost use Rattle.reckoning.specs.Rules.{end as last-of};
 ghost use Rattle.solar.specs.Gregorian.{leap, before-year, gregorian as gregorian-rule};
 use crate::civil;
 use calendar::calendar::Kind;
@@ -35,6 +36,13 @@ fn days_before(year: i32) -> i32
     (365 * years + fourths + cycles - centuries) as i32
 }
 
+// The last day of the last year.
+fn end() -> i32
+    ensures { λ r. ⌜ r ≡ last-of gregorian-rule ⌝ }
+{
+    36_523_884
+}
+
 pub impl Reckoning for Gregorian as GregorianReckoning {
     ghost rule = { λ _. gregorian-rule };
 
@@ -51,7 +59,7 @@ pub impl Reckoning for Gregorian as GregorianReckoning {
     }
 
     fn last_day(&self) -> i32 {
-        36_523_884
+        end()
     }
 
     fn months(&self, year: i32) -> u8 {

@@ -1,6 +1,7 @@
 ghost use mathlib.Core.Path.{_≡_};
 ghost use lib.IntN.{pos, negsuc};
 ghost use lib.Signed.{_≤ℤ_};
+ghost use Rattle.reckoning.specs.Rules.{end as last-of};
 ghost use Rattle.solar.specs.Julian.{leap, before-year, julian as julian-rule};
 use crate::civil;
 use calendar::calendar::Kind;
@@ -31,6 +32,13 @@ fn days_before(year: i32) -> i32
     (365 * years + divide(years, 4).0) as i32 - 2
 }
 
+// The last day of the last year.
+fn end() -> i32
+    ensures { λ r. ⌜ r ≡ last-of julian-rule ⌝ }
+{
+    36_524_632
+}
+
 pub impl Reckoning for Julian as JulianReckoning {
     ghost rule = { λ _. julian-rule };
 
@@ -47,7 +55,7 @@ pub impl Reckoning for Julian as JulianReckoning {
     }
 
     fn last_day(&self) -> i32 {
-        36_524_632
+        end()
     }
 
     fn months(&self, year: i32) -> u8 {

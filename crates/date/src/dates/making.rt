@@ -29,39 +29,43 @@ fn first_misfit(era: i64, year: i64, mark: i64, month: i64, day: i64) -> usize
     ensures { λ r. ⌜ r ≡ misfit era year mark month day ⌝ }
 {
     if !is_between(0, ERA_TO, era) {
-        return 1;
+        1
+    } else if !is_between(YEAR_FROM, YEAR_TO, year) {
+        2
+    } else if !is_between(0, MARK_TO, mark) {
+        3
+    } else if !is_between(1, MONTH_TO, month) {
+        4
+    } else if !is_between(1, DAY_TO, day) {
+        5
+    } else {
+        0
     }
-    if !is_between(YEAR_FROM, YEAR_TO, year) {
-        return 2;
+}
+
+// The date of five numbers, or the refusal of the first that is out of its range.
+fn make(era: i64, year: i64, mark: i64, month: i64, day: i64) -> Result<Date, Fault>
+    ensures { λ r. ⌜ r ≡ dated era year mark month day ⌝ }
+{
+    let place = first_misfit(era, year, mark, month, day);
+    if place > 0 {
+        return Err(Fault::new(Cause::Field, place, 0, 0));
     }
-    if !is_between(0, MARK_TO, mark) {
-        return 3;
-    }
-    if !is_between(1, MONTH_TO, month) {
-        return 4;
-    }
-    if !is_between(1, DAY_TO, day) {
-        return 5;
-    }
-    0
+    Ok(Date {
+        era: era as u8,
+        year: year as i32,
+        mark: mark as u8,
+        month: month as u8,
+        day: day as u8,
+    })
 }
 
 impl Date {
-    // The date of five numbers, or the refusal of the first that is out of its range.
+    // The only way to a date: five numbers of any value are tested, in this order.
     pub fn new(era: i64, year: i64, mark: i64, month: i64, day: i64) -> Result<Date, Fault>
         ensures { λ r. ⌜ r ≡ dated era year mark month day ⌝ }
     {
-        let place = first_misfit(era, year, mark, month, day);
-        if place > 0 {
-            return Err(Fault::new(Cause::Field, place, 0, 0));
-        }
-        Ok(Date {
-            era: era as u8,
-            year: year as i32,
-            mark: mark as u8,
-            month: month as u8,
-            day: day as u8,
-        })
+        make(era, year, mark, month, day)
     }
 
     pub fn era(&self) -> u8

@@ -13,7 +13,7 @@ use Rattle.date.specs.Fields.{misfit, fits}
 use Rattle.date.specs.Refusals.{refusal}
 use Rattle.date.proofs.Keys.{Ranged, ranged}
 use Rattle.date.proofs.Making.{dated-is, dated-misfit}
-use Rattle.date.proofs.dates.Date.new.Needs as need
+use Rattle.date.proofs.dates.making.make.Needs as need
 
 pub returns-then-place-gt0 : need.returns-then-place-gt0
 returns-then-place-gt0 c =
