@@ -22,14 +22,22 @@ pub struct Reckoned<R> {
     by: R,
 }
 
+// The theorem of arithmetic calendars, at the rule of a reckoning.
+fn faithful_to<R: Reckoning>(by: R) -> Reckoned<R>
+    ensures same { λ r. ⌜ r .by ≡ by ⌝ }
+    ensures faithful { λ _. ⌜ Faithful (R·Reckoning .rule by) ⌝ }
+{
+    Reckoned { by }
+}
+
 impl<R: Reckoning> Reckoned<R> {
     // The calendar of a reckoning. Every day of its years has one valid date, both answers are exact, and later days have
     // later dates.
     pub fn new(by: R) -> Reckoned<R>
         ensures same { λ r. ⌜ r .by ≡ by ⌝ }
-        ensures faithful { λ r. ⌜ Faithful (R·Reckoning .rule by) ⌝ }
+        ensures faithful { λ _. ⌜ Faithful (R·Reckoning .rule by) ⌝ }
     {
-        Reckoned { by }
+        faithful_to(by)
     }
 }
 

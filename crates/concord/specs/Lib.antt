@@ -1,0 +1,11 @@
+pub mod Bytes
+pub mod Letters
+pub mod Ways
+pub mod Reading
+pub mod Ending
+pub mod Lines
+pub mod Inputs
+pub mod Calendars
+pub mod Answering
+pub mod Concordance
+pub mod Texts
