@@ -58,7 +58,7 @@ checked r d h =
     let c = passed (eqb (d .mark) 0) _ _ (b .1) in
     let e = failed (eqb (month-days r (d .year) (d .month)) 0) _ _ (c .1) in
     let g = passed (leb (d .day) (month-days r (d .year) (d .month))) _ _ (e .1) in
-    let y = and-parts _ _ (b .0) in
+    let y = and-parts (leZ (r .first) (d .year)) (leZ (d .year) (last-year r)) (b .0) in
     let m = has-days (d .month) (r .months (d .year)) (r .length (d .year) (d .month)) (d .day) (omega (arith, ints)) (e .0) (g .0) in
     record { era = eqb-true _ _ (a .0); mark = eqb-true _ _ (c .0); year = record { from = le-is _ _ (y .0); to = le-is _ _ (y .1) }; month = record { from = omega (arith, ints); to = m .0 }; to = m .1 }
   where
