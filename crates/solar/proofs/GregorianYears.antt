@@ -9,7 +9,7 @@ use lib.Signed.{_≤ℤ_, leZ-yes}
 use Rattle.std.proofs.shelf.Signed.{ints}
 use Rattle.std.proofs.shelf.Tests.{true≢false}
 use Rattle.date.specs.Division.{floor, divisible}
-use Rattle.date.proofs.Divisions.{one-if, floor-next, factor}
+use Rattle.date.proofs.Divisions.{one-if, floor-next, factor, floors}
 use Rattle.reckoning.specs.Rules.{Sound}
 use Rattle.solar.specs.Gregorian.{leap, before-year, gregorian}
 use Rattle.solar.proofs.CivilMonths.{civil-sound}
@@ -24,7 +24,7 @@ counts false true c p q = absurd (true≢false (sym (p refl)))
 counts false false true p q = absurd (true≢false (sym (q refl)))
 counts false false false p q = refl
 
-turns : (y : ℤ) → before-year (y +ℤ pos 1) ≡ before-year y +ℤ pos (365 + one-if (leap y))
+pub turns : (y : ℤ) → before-year (y +ℤ pos 1) ≡ before-year y +ℤ pos (365 + one-if (leap y))
 unfolding before-year leap
 turns y =
     let same : y +ℤ pos 1 -ℤ pos 1 ≡ y = omega (arith, ints) in
@@ -59,3 +59,8 @@ century a b c e f = grind arith
 
 pub common : (a b c : ℕ) → (a ≡ 0 → ⊥) → eqb a 0 ≡ tested a b c
 common a b c e = grind arith
+
+-- the days before a year are not below 0, and fit with room to spare
+pub few-before : (y : ℤ) → pos 1 ≤ℤ y → y ≤ℤ pos 100000 → (pos 0 ≤ℤ before-year y) × (before-year y ≤ℤ pos 40000000)
+unfolding before-year
+few-before y l u = (omega (arith, ints, floors), omega (arith, ints, floors))

@@ -4,11 +4,7 @@ ghost use lib.IntN.{pos};
 ghost use Rattle.solar.specs.Civil.{days, before-month};
 use date::division::divide;
 
-// The months that the Julian and the Gregorian year share, and the years that a date of either may have.
-pub(crate) const FIRST: i32 = 1;
-
-pub(crate) const LAST: i32 = 99_999;
-
+// The months that the Julian and the Gregorian year share.
 pub(crate) const MONTHS: u8 = 12;
 
 pub(crate) fn days_in(leap: bool, month: u8) -> u8

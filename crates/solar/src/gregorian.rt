@@ -1,9 +1,12 @@
+ghost use mathlib.Core.Bool.{true};
 ghost use mathlib.Core.Path.{_≡_};
 ghost use lib.IntN.{pos, negsuc};
 ghost use lib.Signed.{_≤ℤ_};
+ghost use Rattle.date.specs.Days.{within};
 ghost use Rattle.reckoning.specs.Rules.{end as last-of};
 ghost use Rattle.solar.specs.Gregorian.{leap, before-year, gregorian as gregorian-rule};
 use crate::civil;
+use crate::years;
 use calendar::calendar::Kind;
 use date::division::divide;
 use reckoning::reckoning::Reckoning;
@@ -16,7 +19,7 @@ pub impl Kind for Gregorian as GregorianKind {
 }
 
 // Every fourth year, but of the centuries every fourth.
-fn is_leap(year: i32) -> bool
+pub(crate) fn is_leap(year: i32) -> bool
     requires { ⌜ pos 0 ≤ℤ year ⌝ }
     ensures { λ r. ⌜ r ≡ leap year ⌝ }
 {
@@ -25,8 +28,8 @@ fn is_leap(year: i32) -> bool
 }
 
 // The days before the year.
-fn days_before(year: i32) -> i32
-    requires { ⌜ pos 1 ≤ℤ year ⌝ ∗ ⌜ year ≤ℤ pos 99999 ⌝ }
+pub(crate) fn days_before(year: i32) -> i32
+    requires { ⌜ pos 1 ≤ℤ year ⌝ ∗ ⌜ year ≤ℤ pos 100000 ⌝ }
     ensures { λ r. ⌜ r ≡ before-year year ⌝ }
 {
     let years = (year - 1) as u64;
@@ -43,6 +46,13 @@ fn end() -> i32
     36_523_884
 }
 
+// A year near that of the day: it needs one correction at most.
+pub(crate) fn year_near(day: i32) -> i32
+    requires { ⌜ within day ≡ true ⌝ }
+{
+    (divide(400 * day as u64, 146_097).0 + 1) as i32
+}
+
 pub impl Reckoning for Gregorian as GregorianReckoning {
     ghost rule = { λ _. gregorian-rule };
 
@@ -51,11 +61,11 @@ pub impl Reckoning for Gregorian as GregorianReckoning {
     }
 
     fn first(&self) -> i32 {
-        civil::FIRST
+        years::FIRST
     }
 
     fn last(&self) -> i32 {
-        civil::LAST
+        years::LAST
     }
 
     fn last_day(&self) -> i32 {
@@ -79,7 +89,7 @@ pub impl Reckoning for Gregorian as GregorianReckoning {
     }
 
     fn year_near(&self, day: i32) -> i32 {
-        (divide(400 * day as u64, 146_097).0 + 1) as i32
+        year_near(day)
     }
 
     fn month_near(&self, year: i32, nth: u16) -> u8 {

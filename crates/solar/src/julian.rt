@@ -4,6 +4,7 @@ ghost use lib.Signed.{_≤ℤ_};
 ghost use Rattle.reckoning.specs.Rules.{end as last-of};
 ghost use Rattle.solar.specs.Julian.{leap, before-year, julian as julian-rule};
 use crate::civil;
+use crate::years;
 use calendar::calendar::Kind;
 use date::division::divide;
 use reckoning::reckoning::Reckoning;
@@ -47,11 +48,11 @@ pub impl Reckoning for Julian as JulianReckoning {
     }
 
     fn first(&self) -> i32 {
-        civil::FIRST
+        years::FIRST
     }
 
     fn last(&self) -> i32 {
-        civil::LAST
+        years::LAST
     }
 
     fn last_day(&self) -> i32 {

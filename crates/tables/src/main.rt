@@ -5,10 +5,20 @@ use date::dates::Date;
 use date::dates::DatePartialEq;
 use date::faults::Cause;
 use date::faults::CausePartialEq;
+use lunar::hebrew::Hebrew;
+use lunar::hebrew::HebrewReckoning;
+use lunar::islamic::Islamic;
+use lunar::islamic::IslamicReckoning;
 use reckoning::reckoned::Reckoned;
 use reckoning::reckoned::ReckonedCalendar;
+use solar::coptic::Coptic;
+use solar::coptic::CopticReckoning;
+use solar::french::French;
+use solar::french::FrenchReckoning;
 use solar::gregorian::Gregorian;
 use solar::gregorian::GregorianReckoning;
+use solar::iso::Iso;
+use solar::iso::IsoReckoning;
 use solar::julian::Julian;
 use solar::julian::JulianReckoning;
 use std::io;
@@ -46,48 +56,90 @@ fn agrees<C: Calendar>(calendar: &C, day: i32, word: &str) -> bool {
     found && back
 }
 
+// How many days of the table agree with one calendar, and how many were seen.
 #[derive(Clone, Copy)]
 struct Tally {
+    agree: u32,
     days: u32,
-    gregorian: u32,
-    julian: u32,
-}
-
-fn one_if(test: bool) -> u32 {
-    if test { 1 } else { 0 }
 }
 
 impl Tally {
-    // The tally with one line more.
-    fn with(self, line: &str) -> Option<Tally> {
-        let mut words = line.split(' ');
-        let day = words.next()?.parse::<i32>().ok()?;
-        let gregorian = one_if(agrees(&Reckoned::new(Gregorian), day, words.next()?));
-        let julian = one_if(agrees(&Reckoned::new(Julian), day, words.next()?));
-        Some(Tally {
-            days: self.days.saturating_add(1),
-            gregorian: self.gregorian.saturating_add(gregorian),
-            julian: self.julian.saturating_add(julian),
-        })
+    fn note(&mut self, agrees: bool) {
+        self.days = self.days.saturating_add(1);
+        if agrees {
+            self.agree = self.agree.saturating_add(1);
+        }
     }
 }
 
+const NONE: Tally = Tally { agree: 0, days: 0 };
+
+// The tallies of the seven calendars, in the order of the table.
+#[derive(Clone, Copy)]
+struct Tallies {
+    gregorian: Tally,
+    julian: Tally,
+    coptic: Tally,
+    islamic: Tally,
+    hebrew: Tally,
+    french: Tally,
+    iso: Tally,
+}
+
+impl Tallies {
+    // Notes one line of the table; says whether it was one.
+    fn note(&mut self, line: &str) -> Option<()> {
+        let mut words = line.split(' ');
+        let day = words.next()?.parse::<i32>().ok()?;
+        self.gregorian
+            .note(agrees(&Reckoned::new(Gregorian), day, words.next()?));
+        self.julian
+            .note(agrees(&Reckoned::new(Julian), day, words.next()?));
+        self.coptic
+            .note(agrees(&Reckoned::new(Coptic), day, words.next()?));
+        self.islamic
+            .note(agrees(&Reckoned::new(Islamic), day, words.next()?));
+        self.hebrew
+            .note(agrees(&Reckoned::new(Hebrew), day, words.next()?));
+        self.french
+            .note(agrees(&Reckoned::new(French), day, words.next()?));
+        self.iso
+            .note(agrees(&Reckoned::new(Iso), day, words.next()?));
+        Some(())
+    }
+}
+
+fn print(rt: &impl Print, name: &str, tally: Tally) -> io::Result<()> {
+    let agree = tally.agree;
+    let days = tally.days;
+    println!(rt, "{name}: {agree} of {days} days agree")
+}
+
+fn print_all(rt: &impl Print, tallies: Tallies) -> io::Result<()> {
+    print(rt, "Gregorian", tallies.gregorian)?;
+    print(rt, "Julian", tallies.julian)?;
+    print(rt, "Coptic", tallies.coptic)?;
+    print(rt, "Islamic civil", tallies.islamic)?;
+    print(rt, "Hebrew", tallies.hebrew)?;
+    print(rt, "French arithmetic", tallies.french)?;
+    print(rt, "ISO week", tallies.iso)
+}
+
 fn main(rt: LibcRuntime) -> io::Result<()> {
-    let mut tally = Tally {
-        days: 0,
-        gregorian: 0,
-        julian: 0,
+    let mut tallies = Tallies {
+        gregorian: NONE,
+        julian: NONE,
+        coptic: NONE,
+        islamic: NONE,
+        hebrew: NONE,
+        french: NONE,
+        iso: NONE,
     };
     for line in BufReader::new(rt.stdin()).lines(rt.alloc()) {
         let line = line?;
-        match tally.with(line.as_str()) {
-            Some(next) => tally = next,
-            None => println!(rt, "no line of the table: {line}")?,
+        if let None = tallies.note(line.as_str()) {
+            println!(rt, "no line of the table: {line}")?;
         }
     }
-    let days = tally.days;
-    let gregorian = tally.gregorian;
-    let julian = tally.julian;
-    println!(rt, "Gregorian: {gregorian} of {days} days agree")?;
-    println!(rt, "Julian: {julian} of {days} days agree")
+    print_all(&rt, tallies)
 }

@@ -1,0 +1,5 @@
+pub mod Computed
+pub mod IslamicYears
+pub mod Moons
+pub mod NewYears
+pub mod HebrewLaws

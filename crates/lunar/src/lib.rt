@@ -1,0 +1,5 @@
+// Calendars of the moon's months, each a rule under the one reckoning.
+pub mod hebrew;
+pub mod islamic;
+mod new_year;
+mod years;
