@@ -1,3 +1,4 @@
+#![tactic(auto)]
 // Dates carried from one pile to another by their day, the days between two dates, and the law of all piles.
 ghost use Rattle.std.specs.Prelude.{◌≡◌, true, ◌-ℤ◌, IfOk};
 ghost use Rattle.calendar.specs.Parties.{told_by};

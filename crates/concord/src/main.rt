@@ -1,3 +1,4 @@
+#![tactic(auto)]
 // Reads lines, each a letter and a date, and writes for each its day, the weekday and the date under every letter, or the
 // refusal.
 mod answers;

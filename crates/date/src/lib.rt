@@ -1,3 +1,4 @@
+#![tactic(auto)]
 // Days, dates and refusals: what every other crate speaks of.
 pub mod dates;
 pub mod days;

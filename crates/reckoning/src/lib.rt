@@ -1,3 +1,4 @@
+#![tactic(auto)]
 // Arithmetic calendars: one conversion both ways, proved once for every rule of years, months and days.
 pub mod reckoned;
 pub mod reckoning;

@@ -1,3 +1,4 @@
+#![tactic(auto)]
 // Calendars of the sun's year, each a rule under the one reckoning.
 mod civil;
 pub mod coptic;

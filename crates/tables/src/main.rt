@@ -1,3 +1,4 @@
+#![tactic(auto)]
 // Holds the calendars against a table of days: each line a day, then its date under each calendar in turn, or a hyphen
 // where the day comes before the calendar's first year. Says for each calendar how many days agree, both ways.
 use calendar::calendar::Calendar;

@@ -12,7 +12,7 @@ pub returns-then-place-gt0 : goal.returns-then-place-gt0
 returns-then-place-gt0 c =
     let a = c.args in
     let f = c.ranges in
-    let p : c.first-misfit-place.result ≡ misfit a.era a.year a.mark a.month a.day = simp (to_z-of_z, f.era, f.year, f.mark, f.month, f.day) at c.first-misfit-place.ensures in
+    let p : c.first_misfit-place.result ≡ misfit a.era a.year a.mark a.month a.day = simp (to_z-of_z, f.era, f.year, f.mark, f.month, f.day) at c.first_misfit-place.ensures in
     ap Err (c.new.ensures ∙ ap (λ x. refusal Field x (pos 0) 0) p) ∙ sym (dated_misfit a.era a.year a.mark a.month a.day (λ e. omega arith))
 
 -- the numbers are in range, told of the values as the call passed them
@@ -58,5 +58,5 @@ invariant-of-result c =
 pub returns : goal.returns
 returns c =
     let a = c.args in
-    let r = ranged a.era a.year a.mark a.month a.day (fit_by a.era a.year a.mark a.month a.day c.first-misfit-place.result c.ranges.era c.ranges.year c.ranges.mark c.ranges.month c.ranges.day c.first-misfit-place.ensures c.if-place-gt0.false) in
+    let r = ranged a.era a.year a.mark a.month a.day (fit_by a.era a.year a.mark a.month a.day c.first_misfit-place.result c.ranges.era c.ranges.year c.ranges.mark c.ranges.month c.ranges.day c.first_misfit-place.ensures c.if-place-gt0.false) in
     sym (dated_is _ _ _ _ _ _ (omega (arith, ints)) (omega (arith, ints)) (omega (arith, ints)) (omega (arith, ints)) (omega (arith, ints)))
