@@ -1,5 +1,5 @@
 -- Division that rounds down: what a number is made of, and what comes with one more.
-use Rattle.std.proofs.Common.{◌≡◌, ℕ, zero, suc, ◌+◌, ◌-◌, ◌*◌, ◌/◌, ◌%◌, ◌<◌, ◌≤◌, Bool, true, false, cond, eqb, ◌⊎◌, ℤ, pos, negsuc, ◌+ℤ◌, ◌-ℤ◌, nat_abs, ◌≤ℤ◌, sym, refl, ap, ◌∙◌, ⊎_elim, mod-lt, suc-mul, mul-pos, div-add-mod', div-le_self, arith}
+use Rattle.std.proofs.Common.{◌≡◌, ℕ, zero, suc, ◌+◌, ◌-◌, ◌*◌, ◌/◌, ◌%◌, ◌<◌, ◌≤◌, Bool, true, false, cond, eqb, ℤ, pos, negsuc, ◌+ℤ◌, ◌-ℤ◌, nat_abs, ◌≤ℤ◌, sym, refl, ap, ◌∙◌, ⊎_elim, mod-lt, suc-mul, mul-pos, div-add-mod', div-le_self, arith}
 use native.Mathlib.Nat.{zero-div, zero-mod}
 use borrow.Author.Differences.{up, down}
 use lib.Arith.{digits_div, digits_mod, mod-mul}

@@ -1,13 +1,13 @@
 -- Dates stand in one strict line. Each has a key, a number, and a date is earlier exactly where its key is less: every
 -- fact about the order is then one about numbers.
-use Rattle.std.proofs.Common.{◌≡◌, ℕ, suc, ◌+◌, ◌*◌, ◌<◌, ◌≤◌, Bool, true, false, ltb, ◌⊎◌, ℤ, pos, negsuc, ◌+ℤ◌, nat_abs, ◌≤ℤ◌, sym, refl, ap, ◌∙◌, inl, inr, ⊎_elim, mul-le-mul_right, suc-mul, arith}
+use Rattle.std.proofs.Common.{◌≡◌, ℕ, suc, ◌+◌, ◌*◌, ◌<◌, ◌≤◌, Bool, true, false, ltb, ℤ, pos, negsuc, ◌+ℤ◌, nat_abs, ◌≤ℤ◌, sym, refl, ap, ◌∙◌, ⊎_elim, mul-le-mul_right, suc-mul, arith}
 use mathlib.Core.Bool.{Bool-set}
 use mathlib.Core.HLevel.{is_prop→PathP}
 use Rattle.std.proofs.lemmas.Int.{ints}
 use Rattle.std.proofs.lemmas.Bool.Decides.{nat_tests}
 use Rattle.std.proofs.lemmas.Bool.{cases_order, ltb-true, lt-ltb, le-ltb, ltb-false}
 use Rattle.date.specs.declared.dates.Date.{Date}
-use Rattle.date.specs.Dated.{Fitting, fitting}
+use Rattle.date.specs.Dated.{fitting}
 use Rattle.date.specs.Days.{within, first_day, last_day}
 use Rattle.date.specs.Fields.{between, fits}
 use Rattle.date.specs.Order.{earlier, by_nat, by_int, StrictTotal}

@@ -1,6 +1,6 @@
 -- A date made from five numbers, or the refusal of the first that is out of its range. Dates are made here alone.
 use Rattle.std.specs.Prelude.{◌≡◌, ℕ, suc, Bool, true, false, cond, ℤ, pos, negsuc, Ok, Err, Result, unsigned_abs, refl}
-use Rattle.std.proofs.Common.{arith, ◌∙◌, ap}
+use Rattle.std.proofs.Common.{arith, ◌∙◌}
 use Rattle.std.proofs.lemmas.Bool.{eqb-true, false≢true}
 use Rattle.date.specs.declared.dates.Date.{Date}
 use Rattle.date.specs.declared.faults.Cause.TheVariants.{Field}

@@ -3,8 +3,8 @@ use Rattle.std.proofs.lemmas.Int.{ints}
 use Rattle.date.proofs.Keys.{day_between}
 use Rattle.carrying.proofs.days_between.Goals as goal
 
-pub overflow-sub-result : goal.overflow-sub-result
-overflow-sub-result c =
+pub overflow_sub-result : goal.overflow_sub-result
+overflow_sub-result c =
     let a = day_between c.args.from c.requires.0 in
     let b = day_between c.args.to c.requires.1 in
     omega (arith, ints)

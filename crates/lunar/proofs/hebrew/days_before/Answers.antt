@@ -10,11 +10,11 @@ small c =
     let e : pos n ≡ c.args.year = omega (arith, ints) in
     new_year_small n _ (omega (arith, ints)) (omega (arith, ints)) c.new-year-day.ensures
 
-pub overflow-cast-result : goal.overflow-cast-result
-overflow-cast-result c = let s = small c in omega (arith, ints)
+pub overflow_cast-result : goal.overflow_cast-result
+overflow_cast-result c = let s = small c in omega (arith, ints)
 
-pub overflow-sub-result : goal.overflow-sub-result
-overflow-sub-result c = let s = small c in omega (arith, ints)
+pub overflow_sub-result : goal.overflow_sub-result
+overflow_sub-result c = let s = small c in omega (arith, ints)
 
 pub returns : goal.returns
 returns c =

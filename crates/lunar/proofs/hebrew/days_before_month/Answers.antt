@@ -2,8 +2,8 @@ use Rattle.std.proofs.Common.{◌-◌, arith}
 use Rattle.lunar.specs.HebrewLaws.{few, before_small, month_more}
 use Rattle.lunar.proofs.hebrew.days_before_month.Goals as goal
 
-pub overflow-add-sum : goal.overflow-add-sum
-overflow-add-sum c =
+pub overflow_add-sum : goal.overflow_add-sum
+overflow_add-sum c =
     let a = before_small c.args.leap c.args.year_days_lem (c.loop-earlier.earlier - 1) in
     let b = few c.args.leap c.args.year_days_lem c.loop-earlier.earlier in
     omega arith

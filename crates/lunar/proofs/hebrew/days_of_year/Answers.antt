@@ -15,11 +15,11 @@ same c = omega (arith, ints)
 days : (c : goal.After-new-year-day-2) → let a = c.new-year-day.result in let b = c.new-year-day-2.result in (b ≤ a) × (a - b ≤ 385) × (a - b ≡ year_days_lem (year c))
 days c = let e = same c in counted (year c) _ _ (omega (arith, ints)) c.new-year-day.ensures c.new-year-day-2.ensures
 
-pub overflow-sub-result : goal.overflow-sub-result
-overflow-sub-result c = (days c).0
+pub overflow_sub-result : goal.overflow_sub-result
+overflow_sub-result c = (days c).0
 
-pub overflow-cast-result : goal.overflow-cast-result
-overflow-cast-result c = let d = (days c).1 in omega arith
+pub overflow_cast-result : goal.overflow_cast-result
+overflow_cast-result c = let d = (days c).1 in omega arith
 
 pub returns : goal.returns
 returns c =

@@ -4,14 +4,14 @@ use Rattle.lunar.specs.Moons.{molad_small}
 use Rattle.lunar.specs.NewYears.{delay_small, new_year_from}
 use Rattle.lunar.proofs.new_year.new_year_day.Goals as goal
 
-pub overflow-add-day : goal.overflow-add-day
-overflow-add-day c =
+pub overflow_add-day : goal.overflow_add-day
+overflow_add-day c =
     let d : c.molad-day.result.0 ≡ molad_day c.args.year = ap (λ r. r.0) c.molad-day.ensures in
     let m = molad_small c.args.year c.requires.0 c.requires.1 in
     omega arith
 
-pub overflow-add-result : goal.overflow-add-result
-overflow-add-result c =
+pub overflow_add-result : goal.overflow_add-result
+overflow_add-result c =
     let d : c.molad-day.result.0 ≡ molad_day c.args.year = ap (λ r. r.0) c.molad-day.ensures in
     let m = molad_small c.args.year c.requires.0 c.requires.1 in
     let x = delay_small c.is-leap.result c.is-leap-2.result c.divide-weekday.result.1 c.molad-day.result.1 _ c.delay.ensures in

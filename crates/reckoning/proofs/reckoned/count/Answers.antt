@@ -4,8 +4,8 @@ use Rattle.reckoning.proofs.Answering.{reach}
 use Rattle.reckoning.proofs.Steps.{moved}
 use Rattle.reckoning.proofs.reckoned.count.Goals as goal
 
-pub overflow-add-result : goal.overflow-add-result
-overflow-add-result g c =
+pub overflow_add-result : goal.overflow_add-result
+overflow_add-result g c =
     let r = g.R.Reckoning.rule c.args.r.now in
     let d = c.args.date.now in
     let h = reach r (g.met.R.Reckoning.sound c.args.r.now) d c.requires in
@@ -15,8 +15,8 @@ overflow-add-result g c =
     let l = moved r d.year _ d.month _ c.elapsed.result yy c.month.ensures c.elapsed.ensures in
     omega (arith, ints)
 
-pub overflow-add-result-2 : goal.overflow-add-result-2
-overflow-add-result-2 g c =
+pub overflow_add-result-2 : goal.overflow_add-result-2
+overflow_add-result-2 g c =
     let r = g.R.Reckoning.rule c.args.r.now in
     let d = c.args.date.now in
     let h = reach r (g.met.R.Reckoning.sound c.args.r.now) d c.requires in

@@ -16,11 +16,11 @@ held g c =
     let e = simp to_z-of_z at c.new-year.ensures in
     (h, e, nth_near _ (g.met.R.Reckoning.sound c.args.r.now) _ _ _ h e)
 
-pub overflow-sub-nth : goal.overflow-sub-nth
-overflow-sub-nth g c = let h = held g c in let b = h.2 in omega (arith, ints)
+pub overflow_sub-nth : goal.overflow_sub-nth
+overflow_sub-nth g c = let h = held g c in let b = h.2 in omega (arith, ints)
 
-pub overflow-cast-nth : goal.overflow-cast-nth
-overflow-cast-nth g c = let h = held g c in let b = h.2 in (omega (arith, ints), omega (arith, ints))
+pub overflow_cast-nth : goal.overflow_cast-nth
+overflow_cast-nth g c = let h = held g c in let b = h.2 in (omega (arith, ints), omega (arith, ints))
 
 pub month-of-month-requires : goal.month-of-month-requires
 month-of-month-requires g c =

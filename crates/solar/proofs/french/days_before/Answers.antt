@@ -14,15 +14,15 @@ cycles_is c =
     let n : ℕ = nat_abs (to_z w32 (of_z w32 (to_z w32 (of_z w32 c.args.year) -ℤ pos 1))) in
     (n, omega (arith, ints), ap (λ r. r.0) c.divide-cycles.ensures)
 
-pub overflow-add-result : goal.overflow-add-result
-overflow-add-result c =
+pub overflow_add-result : goal.overflow_add-result
+overflow_add-result c =
     let e = days_is c in
     let h = few_before c.args.year (omega (arith, ints)) (omega (arith, ints)) in
     let fd : SFits w32 c.days-before.result = record { sfits = c.days-before.type-inv } in
     simp to_z-of_z (omega (arith, ints))
 
-pub overflow-sub-result : goal.overflow-sub-result
-overflow-sub-result c =
+pub overflow_sub-result : goal.overflow_sub-result
+overflow_sub-result c =
     let e = days_is c in
     let h = few_before c.args.year (omega (arith, ints)) (omega (arith, ints)) in
     let p = cycles_is c in

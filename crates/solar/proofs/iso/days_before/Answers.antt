@@ -5,8 +5,8 @@ use Rattle.solar.specs.GregorianYears.{few_before}
 use Rattle.solar.specs.IsoYears.{count_is}
 use Rattle.solar.proofs.iso.days_before.Goals as goal
 
-pub overflow-cast-third : goal.overflow-cast-third
-overflow-cast-third c =
+pub overflow_cast-third : goal.overflow_cast-third
+overflow_cast-third c =
     let fy = c.ranges.year in
     let e : c.days-before.result ≡ before_year c.args.year = simp to_z-of_z at c.days-before.ensures in
     let h = few_before c.args.year c.requires.0 c.requires.1 in

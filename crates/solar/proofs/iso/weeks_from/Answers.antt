@@ -10,8 +10,8 @@ counts y a b fy h p q =
     let fn : SFits w32 (y +ℤ pos 1) = omega (arith, ints) in
     apart y a b (simp to_z-of_z at p) (simp to_z-of_z at q)
 
-pub overflow-sub-days-before : goal.overflow-sub-days-before
-overflow-sub-days-before c =
+pub overflow_sub-days-before : goal.overflow_sub-days-before
+overflow_sub-days-before c =
     let fa : SFits w32 c.days-before.result = record { sfits = c.days-before.type-inv } in
     let fb : SFits w32 c.days-before-2.result = record { sfits = c.days-before-2.type-inv } in
     let e = counts c.args.year _ _ c.ranges.year c.requires.1 c.days-before.ensures c.days-before-2.ensures in

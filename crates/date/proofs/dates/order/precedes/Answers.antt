@@ -8,6 +8,4 @@ unfolding earlier
 returns c =
     let a = c.args.a.now in
     let b = c.args.b.now in
-    let h = c.lt.ensures in
-    let r = h.0 in
-    h.2 ∙ at_nat a.era b.era _ _ r (at_int a.year b.year _ _ r (at_nat a.mark b.mark _ _ r (at_nat a.month b.month _ _ r (at_last a.day b.day r)))) h.1
+    c.lt.ensures ∙ at_nat a.era b.era _ _ (at_int a.year b.year _ _ (at_nat a.mark b.mark _ _ (at_nat a.month b.month _ _ (at_last a.day b.day))))

@@ -1,5 +1,5 @@
 use Rattle.layer.proofs.Rows.{era_small}
 use Rattle.layer.proofs.table.Table.era_on.Goals as goal
 
-pub overflow-cast-result : goal.overflow-cast-result
-overflow-cast-result c = record { fits = era_small c.args.self.now _ _ c.requires c.last-begun.ensures }
+pub overflow_cast-result : goal.overflow_cast-result
+overflow_cast-result c = record { fits = era_small c.args.self.now _ _ c.requires c.last-begun.ensures }
