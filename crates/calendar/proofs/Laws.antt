@@ -1,5 +1,5 @@
 -- What the law of a pile says of its days.
-use Rattle.std.proofs.Common.{◌≡◌, ℕ, Bool, true, false, ℤ, IfOk, Ok, Err, Result, sym, refl, ⊎_elim, arith}
+use Rattle.std.proofs.Common.{◌≡◌, ℕ, true, ℤ, IfOk, Ok, Err, Result, sym, refl, ⊎_elim, arith}
 use Rattle.std.proofs.lemmas.Bool.{cases_Bool}
 use Rattle.date.specs.declared.dates.Date.{Date}
 use Rattle.date.specs.declared.faults.Fault.{Fault}

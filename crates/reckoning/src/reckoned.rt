@@ -40,8 +40,8 @@ impl<R: Reckoning> Reckoned<R> {
 
 // The year that holds the day: from a hint, back while it begins too late, and on while the next begins in time.
 fn year_of<R: Reckoning>(r: &R, day: i32) -> i32
-    requires { (within day ≡ true) × (((rule r.now).start (rule r.now).first 1 <ℤ day) × (day ≤ℤ last_of (rule r.now))) }
-    ensures { HoldsYear (rule r.now) day result }
+    requires { (within day ≡ true) × (((R.rule r.now).start (R.rule r.now).first 1 <ℤ day) × (day ≤ℤ last_of (R.rule r.now))) }
+    ensures { HoldsYear (R.rule r.now) day result }
 {
     let first = r.first();
     let last = r.last();
@@ -57,8 +57,8 @@ fn year_of<R: Reckoning>(r: &R, day: i32) -> i32
 
 // The month that holds the nth day of the year, likewise.
 fn month_of<R: Reckoning>(r: &R, year: i32, nth: u16) -> u8
-    requires { HoldsYear (rule r.now) ((rule r.now).start year 1 +ℤ pos nth) year }
-    ensures { HoldsMonth (rule r.now) ((rule r.now).start year 1 +ℤ pos nth) year result }
+    requires { HoldsYear (R.rule r.now) ((R.rule r.now).start year 1 +ℤ pos nth) year }
+    ensures { HoldsMonth (R.rule r.now) ((R.rule r.now).start year 1 +ℤ pos nth) year result }
 {
     let months = r.months(year);
     let mut month = r.month_near(year, nth).clamp(1, months);
@@ -73,8 +73,8 @@ fn month_of<R: Reckoning>(r: &R, year: i32, nth: u16) -> u8
 
 // The date of a day that is in the years of the rule.
 fn find<R: Reckoning>(r: &R, day: i32) -> Result<Date, Fault>
-    requires { (within day ≡ true) × (((rule r.now).start (rule r.now).first 1 <ℤ day) × (day ≤ℤ last_of (rule r.now))) }
-    ensures { result ≡ dated_on (rule r.now) day }
+    requires { (within day ≡ true) × (((R.rule r.now).start (R.rule r.now).first 1 <ℤ day) × (day ≤ℤ last_of (R.rule r.now))) }
+    ensures { result ≡ dated_on (R.rule r.now) day }
 {
     let year = year_of(r, day);
     let nth = (day - r.new_year(year)) as u16;
@@ -84,15 +84,15 @@ fn find<R: Reckoning>(r: &R, day: i32) -> Result<Date, Fault>
 }
 
 fn has_year<R: Reckoning>(r: &R, year: i32) -> bool
-    ensures { result ≡ has_year_lem (rule r.now) year }
+    ensures { result ≡ has_year_lem (R.rule r.now) year }
 {
     r.first() <= year && year <= r.last()
 }
 
 // The days of a month of the year, and none of a month that the year does not have.
 fn days_in<R: Reckoning>(r: &R, year: i32, month: u8) -> u8
-    requires { (has_year_lem (rule r.now) year ≡ true) × (1 ≤ month) }
-    ensures { result ≡ month_days (rule r.now) year month }
+    requires { (has_year_lem (R.rule r.now) year ≡ true) × (1 ≤ month) }
+    ensures { result ≡ month_days (R.rule r.now) year month }
 {
     if month <= r.months(year) {
         r.length(year, month)
@@ -103,7 +103,7 @@ fn days_in<R: Reckoning>(r: &R, year: i32, month: u8) -> u8
 
 // The number of the first field of the date that the rule does not have, and 0 where it has them all.
 fn misdated<R: Reckoning>(r: &R, date: &Date) -> usize
-    ensures { result ≡ misdated-by (rule r.now) date.now }
+    ensures { result ≡ misdated-by (R.rule r.now) date.now }
 {
     if date.era() != 0 {
         return 1;
@@ -126,8 +126,8 @@ fn misdated<R: Reckoning>(r: &R, date: &Date) -> usize
 
 // The day of a date whose fields the rule has.
 fn count<R: Reckoning>(r: &R, date: &Date) -> i32
-    requires { misdated-by (rule r.now) date.now ≡ 0 }
-    ensures { result ≡ (rule r.now).start date.now.year date.now.month +ℤ pos date.now.day }
+    requires { misdated-by (R.rule r.now) date.now ≡ 0 }
+    ensures { result ≡ (R.rule r.now).start date.now.year date.now.month +ℤ pos date.now.day }
 {
     let year = date.year();
     r.new_year(year) + i32::from(r.elapsed(year, date.month())) + i32::from(date.day())
@@ -135,7 +135,7 @@ fn count<R: Reckoning>(r: &R, date: &Date) -> i32
 
 // The date that a day carries by the rule.
 fn date_by<R: Reckoning>(r: &R, day: i32) -> Result<Date, Fault>
-    ensures { result ≡ on (rule r.now) day }
+    ensures { result ≡ on (R.rule r.now) day }
 {
     if !in_range(day) {
         return Err(Fault::new(Cause::OutsideRange, 0, 0, r.kind()));
@@ -148,7 +148,7 @@ fn date_by<R: Reckoning>(r: &R, day: i32) -> Result<Date, Fault>
 
 // The day that carries a date by the rule.
 fn day_by<R: Reckoning>(r: &R, date: Date) -> Result<i32, Fault>
-    ensures { result ≡ of (rule r.now) date }
+    ensures { result ≡ of (R.rule r.now) date }
 {
     let place = misdated(r, &date);
     if place > 0 {

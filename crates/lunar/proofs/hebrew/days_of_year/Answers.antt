@@ -6,14 +6,14 @@ use Rattle.lunar.specs.NewYears.{counted}
 use Rattle.lunar.proofs.hebrew.days_of_year.Goals as goal
 
 -- the year as a natural number
-abbrev year : (c : goal.After-new-year-day-2) → ℕ
+abbrev year : (c : goal.After-new_year_day-2) → ℕ
 year c = nat_abs (to_z w32 (of_z w32 c.args.year))
 
-same : (c : goal.After-new-year-day-2) → pos (year c) ≡ c.args.year
+same : (c : goal.After-new_year_day-2) → pos (year c) ≡ c.args.year
 same c = omega (arith, ints)
 
-days : (c : goal.After-new-year-day-2) → let a = c.new-year-day.result in let b = c.new-year-day-2.result in (b ≤ a) × (a - b ≤ 385) × (a - b ≡ year_days_lem (year c))
-days c = let e = same c in counted (year c) _ _ (omega (arith, ints)) c.new-year-day.ensures c.new-year-day-2.ensures
+days : (c : goal.After-new_year_day-2) → let a = c.new_year_day.result in let b = c.new_year_day-2.result in (b ≤ a) × (a - b ≤ 385) × (a - b ≡ year_days_lem (year c))
+days c = let e = same c in counted (year c) _ _ (omega (arith, ints)) c.new_year_day.ensures c.new_year_day-2.ensures
 
 pub overflow_sub-result : goal.overflow_sub-result
 overflow_sub-result c = (days c).0

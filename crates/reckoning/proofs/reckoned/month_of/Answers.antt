@@ -14,7 +14,7 @@ back-init g c =
     let fy = c.ranges.year in
     let some = (g.met.R.Reckoning.sound c.args.r.now).some_months _ c.requires.years in
     let count = simp to_z-of_z at c.months-months.ensures in
-    let k = clamped c.months-months.result c.month-near.result c.clamp-month.result (omega arith) c.clamp-month.ensures in
+    let k = clamped c.months-months.result c.month_near.result c.clamp-month.result (omega arith) c.clamp-month.ensures in
     simp to_z-of_z (record { from = k.0; to = omega arith })
 
 pub returns-else-elapsed-nth-2 : goal.returns-else-elapsed-nth-2

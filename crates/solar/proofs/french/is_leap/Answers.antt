@@ -4,21 +4,21 @@ use Rattle.solar.specs.Gregorian.{leap as gregorian-leap}
 use Rattle.solar.specs.FrenchYears.{leap_is}
 use Rattle.solar.proofs.french.is_leap.Goals as goal
 
-pub returns-then-is-leap : goal.returns-then-is-leap
-returns-then-is-leap c =
+pub returns-then-is_leap : goal.returns-then-is_leap
+returns-then-is_leap c =
     let y = c.args.year in
     let fy = c.ranges.year in
     let n : ℕ = nat_abs (to_z w32 (of_z w32 y)) in
     let e : pos n ≡ y = omega (arith, ints) in
     let a : c.divide.result.1 ≡ n % 4000 = ap (λ r. r.1) c.divide.ensures in
-    let g : true ≡ gregorian-leap y = simp to_z-of_z at c.if-is-leap.ensures in
+    let g : true ≡ gregorian-leap y = simp to_z-of_z at c.if-is_leap.ensures in
     ap (λ v. not (eqb v 0)) a ∙ ap (λ t. t && not (eqb (n % 4000) 0)) g ∙ leap_is y n e
 
-pub returns-else-is-leap : goal.returns-else-is-leap
-returns-else-is-leap c =
+pub returns-else-is_leap : goal.returns-else-is_leap
+returns-else-is_leap c =
     let y = c.args.year in
     let fy = c.ranges.year in
     let n : ℕ = nat_abs (to_z w32 (of_z w32 y)) in
     let e : pos n ≡ y = omega (arith, ints) in
-    let g : false ≡ gregorian-leap y = simp to_z-of_z at c.if-is-leap.ensures in
-    c.if-is-leap.false ∙ ap (λ t. t && not (eqb (n % 4000) 0)) g ∙ leap_is y n e
+    let g : false ≡ gregorian-leap y = simp to_z-of_z at c.if-is_leap.ensures in
+    c.if-is_leap.false ∙ ap (λ t. t && not (eqb (n % 4000) 0)) g ∙ leap_is y n e

@@ -10,19 +10,19 @@ counts y a b fy h p q =
     let fn : SFits w32 (y +ℤ pos 1) = omega (arith, ints) in
     apart y a b (simp to_z-of_z at p) (simp to_z-of_z at q)
 
-pub overflow_sub-days-before : goal.overflow_sub-days-before
-overflow_sub-days-before c =
-    let fa : SFits w32 c.days-before.result = record { sfits = c.days-before.type-inv } in
-    let fb : SFits w32 c.days-before-2.result = record { sfits = c.days-before-2.type-inv } in
-    let e = counts c.args.year _ _ c.ranges.year c.requires.1 c.days-before.ensures c.days-before-2.ensures in
+pub overflow_sub-days_before : goal.overflow_sub-days_before
+overflow_sub-days_before c =
+    let fa : SFits w32 c.days_before.result = record { sfits = c.days_before.type_inv } in
+    let fb : SFits w32 c.days_before-2.result = record { sfits = c.days_before-2.type_inv } in
+    let e = counts c.args.year _ _ c.ranges.year c.requires.1 c.days_before.ensures c.days_before-2.ensures in
     simp to_z-of_z (⊎_elim (λ p. omega (arith, ints)) (λ p. omega (arith, ints)) e)
 
-pub returns-then-days-before-eq371 : goal.returns-then-days-before-eq371
-returns-then-days-before-eq371 c =
-    let e = counts c.args.year _ _ c.ranges.year c.requires.1 c.days-before.ensures c.days-before-2.ensures in
+pub returns-then-days_before-eq371 : goal.returns-then-days_before-eq371
+returns-then-days_before-eq371 c =
+    let e = counts c.args.year _ _ c.ranges.year c.requires.1 c.days_before.ensures c.days_before-2.ensures in
     record { number = ⊎_elim (λ p. absurd (omega (arith, ints))) (λ p. sym p.1) e; whole = whole c.args.year }
 
-pub returns-else-days-before-eq371 : goal.returns-else-days-before-eq371
-returns-else-days-before-eq371 c =
-    let e = counts c.args.year _ _ c.ranges.year c.requires.1 c.days-before.ensures c.days-before-2.ensures in
+pub returns-else-days_before-eq371 : goal.returns-else-days_before-eq371
+returns-else-days_before-eq371 c =
+    let e = counts c.args.year _ _ c.ranges.year c.requires.1 c.days_before.ensures c.days_before-2.ensures in
     record { number = ⊎_elim (λ p. sym p.1) (λ p. absurd (omega (arith, ints))) e; whole = whole c.args.year }
