@@ -1,5 +1,5 @@
 -- The two answers of a rule, case by case, and how far the numbers of a count reach.
-use Rattle.std.proofs.Common.{◌≡◌, ℕ, ◌<◌, ◌≤◌, Bool, true, false, cond, ◌&&◌, ◌⊎◌, ℤ, pos, negsuc, ◌+ℤ◌, ◌≤ℤ◌, ◌<ℤ◌, Ok, Err, sym, refl, ap, ◌∙◌, inl, inr, arith}
+use Rattle.std.proofs.Common.{◌≡◌, ℕ, ◌<◌, true, false, ◌&&◌, ◌⊎◌, ℤ, pos, negsuc, ◌≤ℤ◌, ◌<ℤ◌, Ok, Err, sym, ap, ◌∙◌, inl, inr, arith}
 use lib.Signed.{lt_z, le_z}
 use Rattle.std.proofs.lemmas.Int.{ints}
 use Rattle.std.proofs.lemmas.Bool.{and_from, and_left, and_right, eq-eqb, ne_eqb, cond-true, cond-false}
@@ -12,9 +12,9 @@ use Rattle.date.specs.Refusals.{refusal}
 use Rattle.date.proofs.Keys.{date_ranged}
 use Rattle.reckoning.specs.Reckoned.{on, of, misdated, counted, dated_on}
 use Rattle.reckoning.specs.Rules.{Rule, Sound, InYears, InMonths, end}
-use Rattle.reckoning.specs.Faiths.{Checked, checked}
+use Rattle.reckoning.specs.Faiths.{checked}
 use Rattle.reckoning.specs.Orders.{is_lt, is_le, not_lt, not_le}
-use Rattle.reckoning.specs.Theory.{Valid, day_at, from_first, month_begins, day_in}
+use Rattle.reckoning.specs.Theory.{day_at, from_first, month_begins, day_in}
 
 module _ (r : Rule) (k : ℕ) (e : k ≡ r.kind) where
   pub on_outside : (n : ℤ) (f : Fault) → within n ≡ false → f ≡ refusal OutsideRange 0 (pos 0) k → Err f ≡ on r n

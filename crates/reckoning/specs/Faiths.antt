@@ -1,15 +1,15 @@
 -- Every rule that keeps its laws is faithful, and so means a lawful calendar.
-use Rattle.std.specs.Prelude.{◌≡◌, ℕ, suc, ◌<◌, ◌≤◌, Bool, true, false, cond, ◌&&◌, ◌⊎◌, ℤ, pos, ◌+ℤ◌, ◌-ℤ◌, ◌≤ℤ◌, ◌<ℤ◌, Ok, Err, Result, ◌==◌, int_le, int_lt, nat_le, unsigned_abs, refl}
-use Rattle.std.proofs.Common.{arith, inl, inr, ⊎_elim, ap, ◌∙◌, subst}
+use Rattle.std.specs.Prelude.{◌≡◌, ℕ, suc, ◌<◌, ◌≤◌, Bool, true, false, cond, ◌&&◌, ℤ, pos, ◌+ℤ◌, ◌-ℤ◌, ◌≤ℤ◌, ◌<ℤ◌, Ok, Err, Result, ◌==◌, int_le, int_lt, nat_le, unsigned_abs, refl}
+use Rattle.std.proofs.Common.{arith, ⊎_elim, ap, ◌∙◌, subst}
 use Rattle.std.proofs.Math.Path.{sym, transport}
 use Rattle.std.proofs.lemmas.Int.{ints}
-use Rattle.std.proofs.lemmas.Bool.{and_parts, and_from, eqb-true, eq-eqb, ne_eqb, leb-true, le-leb, cond-true, cond-false}
+use Rattle.std.proofs.lemmas.Bool.{and_parts, and_from, eqb-true, eq-eqb, ne_eqb, le-leb, cond-true, cond-false}
 use Rattle.std.proofs.lemmas.Bool.Decides.{nat_tests}
 use Rattle.calendar.specs.Meaning.{Lawful}
 use Rattle.calendar.proofs.Laws.{ok_not_err}
 use Rattle.date.specs.declared.dates.Date.{Date}
 use Rattle.date.specs.declared.faults.Fault.{Fault}
-use Rattle.date.specs.Dated.{dated, passed}
+use Rattle.date.specs.Dated.{passed}
 use Rattle.date.specs.Days.{within}
 use Rattle.date.specs.Order.{earlier}
 use Rattle.date.proofs.Keys.{key, date_ranged, keyed, from_before, same_date}
@@ -19,7 +19,7 @@ use Rattle.reckoning.specs.Held.{HoldsYear, HoldsMonth}
 use Rattle.reckoning.specs.Reckoned.{Names, reckoned, on, of, misdated, counted, has_year_lem, month_days, dated_in, dated_on, year_on, month_on}
 use Rattle.reckoning.specs.Rules.{Rule, Sound, InYears, InMonths, last_year, end}
 use Rattle.reckoning.specs.Orders.{is_lt, is_le, lt_is, le_is}
-use Rattle.reckoning.specs.Theory.{Valid, day_at, Before, Same, day_in, later, compare, unique, year_found, month_found, there}
+use Rattle.reckoning.specs.Theory.{Valid, day_at, Before, day_in, later, compare, unique, year_found, month_found, there}
 
 -- a test that let an answer through
 through : {X : Type 0} (t : Bool) (x : Result X Fault) (f : Fault) (v : X) → cond t x (Err f) ≡ Ok v → (t ≡ true) × (x ≡ Ok v)

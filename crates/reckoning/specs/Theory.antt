@@ -1,13 +1,13 @@
 -- What the laws of a rule give: every day of its years is named by one triple of year, month and day of the month, and a
 -- later triple names a later day.
 use Rattle.std.specs.Prelude.{◌≡◌, ℕ, zero, suc, ◌+◌, ◌-◌, ◌<◌, ◌≤◌, Bool, true, false, cond, ◌⊎◌, ℤ, pos, ◌+ℤ◌, ◌-ℤ◌, ◌≤ℤ◌, ◌<ℤ◌, int_lt, unsigned_abs, refl}
-use Rattle.std.proofs.Common.{arith, inl, inr, ⊎_elim, sym, ap, ◌∙◌}
+use Rattle.std.proofs.Common.{arith, inl, inr, ⊎_elim, sym}
 use Rattle.std.proofs.lemmas.Int.{ints}
 use Rattle.std.proofs.lemmas.Bool.{cases_order}
 use Rattle.reckoning.specs.Held.{HoldsYear, HoldsMonth}
 use Rattle.reckoning.specs.Reckoned.{latest, year_on, month_on}
 use Rattle.reckoning.specs.Rules.{Rule, Sound, InYears, InMonths, last_year, end}
-use Rattle.reckoning.specs.Orders.{orderℤ, is_lt, not_lt}
+use Rattle.reckoning.specs.Orders.{orderℤ, is_lt}
 
 -- a year, a month and a day of the month that the rule has
 pub record Valid (r : Rule) (y : ℤ) (m t : ℕ) : Type 0 where

@@ -1,4 +1,4 @@
-use Rattle.std.proofs.Common.{◌≡◌, ℤ, pos, ◌+ℤ◌, ap, ◌∙◌, arith, w32, SFits}
+use Rattle.std.proofs.Common.{◌≡◌, ap, ◌∙◌, arith, w32, SFits}
 use Rattle.std.proofs.lemmas.Int.{ints, to_z-of_z}
 use Rattle.reckoning.proofs.Answering.{reach}
 use Rattle.reckoning.proofs.Steps.{moved}

@@ -1,6 +1,5 @@
-use Rattle.std.proofs.Common.{◌≡◌, true, ◌<ℤ◌, sym, ap, ◌∙◌, inl, inr, arith, w32, SFits}
+use Rattle.std.proofs.Common.{◌≡◌, sym, ap, ◌∙◌, inl, inr, arith, w32, SFits}
 use Rattle.std.proofs.lemmas.Int.{ints, to_z-of_z}
-use Rattle.date.specs.Days.{within}
 use Rattle.reckoning.proofs.Answering.{on_outside, on_undated, on_dated}
 use Rattle.reckoning.proofs.reckoned.date_by.Goals as goal
 use Rattle.reckoning.proofs.reckoned.date_by.Goals.{then-day-new_year-via-then-day-new_year, then-day-new_year-via-else-day-new_year+then-day-last_day}

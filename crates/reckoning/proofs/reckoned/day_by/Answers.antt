@@ -1,5 +1,5 @@
 use Rattle.std.proofs.Common.{◌≡◌, Ok, sym, ap, ◌∙◌, arith, w32, SFits}
-use Rattle.std.proofs.lemmas.Int.{ints, to_z-of_z}
+use Rattle.std.proofs.lemmas.Int.{to_z-of_z}
 use Rattle.reckoning.specs.Reckoned.{misdated}
 use Rattle.reckoning.proofs.Answering.{of_misdated, of_outside, of_counted}
 use Rattle.reckoning.proofs.reckoned.day_by.Goals as goal

@@ -1,4 +1,4 @@
-use Rattle.std.proofs.Common.{◌≡◌, ℤ, pos, ◌+ℤ◌, ◌-ℤ◌, nat_abs, ◌≤ℤ◌, ◌<ℤ◌, sym, refl, ◌∙◌, arith, w32, w64, SFits, to_z, of_z}
+use Rattle.std.proofs.Common.{◌≡◌, pos, ◌+ℤ◌, ◌-ℤ◌, nat_abs, ◌≤ℤ◌, ◌<ℤ◌, sym, refl, ◌∙◌, arith, w32, w64, SFits, to_z, of_z}
 use mathlib.Core.Path.{transport}
 use Rattle.std.proofs.lemmas.Int.{ints, to_z-of_z}
 use Rattle.date.specs.Dated.{dated}
@@ -22,8 +22,8 @@ overflow_sub-nth g c = let h = held g c in let b = h.2 in omega (arith, ints)
 pub overflow_cast-nth : goal.overflow_cast-nth
 overflow_cast-nth g c = let h = held g c in let b = h.2 in (omega (arith, ints), omega (arith, ints))
 
-pub month-of_month-requires : goal.month-of_month-requires
-month-of_month-requires g c =
+pub month_of-month-requires : goal.month_of-month-requires
+month_of-month-requires g c =
     let r = g.R.Reckoning.rule c.args.r.now in
     let y = c.year_of-year.result in
     let fy : SFits w32 y = record { sfits = c.year_of-year.type_inv } in
@@ -38,7 +38,7 @@ returns g c =
     let s = g.met.R.Reckoning.sound c.args.r.now in
     let d = c.args.day in
     let y = c.year_of-year.result in
-    let m = c.month-of_month.result in
+    let m = c.month_of-month.result in
     let fd = c.ranges.day in
     let fy : SFits w32 y = record { sfits = c.year_of-year.type_inv } in
     let yy = to_z-of_z w32 y fy in
@@ -46,9 +46,9 @@ returns g c =
     let e : c.new_year.result ≡ r.start y 1 = simp to_z-of_z at c.new_year.ensures in
     let b = nth_near r s d y c.new_year.result h e in
     let n : r.start (to_z w32 (of_z w32 y)) 1 +ℤ pos (nat_abs (to_z w32 (of_z w32 (to_z w32 (of_z w32 d) -ℤ to_z w32 (of_z w32 c.new_year.result))))) ≡ d = omega (arith, ints, c.new_year.ensures) in
-    let i : HoldsMonth r d y m = transport (λ j. HoldsMonth r (n j) (yy j) m) c.month-of_month.ensures in
+    let i : HoldsMonth r d y m = transport (λ j. HoldsMonth r (n j) (yy j) m) c.month_of-month.ensures in
     let l = moved r y (to_z w32 (of_z w32 y)) m m c.elapsed.result yy refl c.elapsed.ensures in
     let ey : to_z w64 (of_z w64 c.from.result) ≡ y = wider c.from.result y fy c.from.ensures in
-    let em : to_z w64 (of_z w64 c.from-2.result) ≡ pos m = wider_nat c.from-2.result m c.month-of_month.type_inv c.from-2.ensures in
+    let em : to_z w64 (of_z w64 c.from-2.result) ≡ pos m = wider_nat c.from-2.result m c.month_of-month.type_inv c.from-2.ensures in
     let et : to_z w64 (of_z w64 c.from-3.result) ≡ d -ℤ r.start y m = of_month c.from-3.result c.new_year.result (r.start y 1) (r.start y m) d c.elapsed.result fd (record { sfits = c.new_year.type_inv }) e b.0 b.1 l i.after c.from-3.ensures in
     c.new.ensures ∙ (λ j. dated (pos 0) (ey j) (pos 0) (em j) (et j)) ∙ found_on r s d y m c.requires.1.0 c.requires.1.1 h i
