@@ -1,12 +1,12 @@
 -- Civil months keep the laws of a rule, whatever the count of years, if a year has 365 days and a leap year one more.
-use Rattle.std.specs.Prelude.{◌≡◌, ℕ, zero, suc, ◌+◌, ◌<◌, ◌≤◌, Bool, true, false, cond, ◌&&◌, T, ℤ, pos, negsuc, ◌+ℤ◌, ◌≤ℤ◌, int_le, refl}
-use Rattle.std.proofs.Common.{arith, ⊎_elim, sym, ap, ◌∙◌}
+use Rattle.std.specs.Prelude.{◌≡◌, ℕ, zero, suc, ◌+◌, ◌<◌, ◌≤◌, Bool, true, false, ◌&&◌, T, ℤ, pos, negsuc, ◌+ℤ◌, ◌≤ℤ◌, int_le, refl}
+use Rattle.std.proofs.Common.{arith, ⊎_elim, sym}
 use Rattle.std.proofs.Math.IntN.{+ℤ_assoc}
 use Rattle.std.specs.Int.Signed.{le_z_yes}
 use Rattle.std.proofs.lemmas.Int.{ints}
 use Rattle.std.proofs.lemmas.Bool.{cases_order}
 use Rattle.date.proofs.Divisions.{one_if}
-use Rattle.reckoning.specs.Rules.{Sound, end}
+use Rattle.reckoning.specs.Rules.{Sound}
 use Rattle.solar.specs.Civil.{days, before_month, civil}
 
 -- a test passes at each number below k

@@ -1,10 +1,10 @@
 -- The Gregorian count of years turns over by 365 days, and in a leap year by one more.
-use Rattle.std.specs.Prelude.{◌≡◌, ℕ, ◌+◌, ◌-◌, ◌*◌, ◌/◌, ◌%◌, Bool, true, false, cond, not, ◌&&◌, ◌||◌, ℤ, pos, negsuc, ◌+ℤ◌, ◌-ℤ◌, ◌≤ℤ◌, ◌==◌, ◌≢◌, refl}
+use Rattle.std.specs.Prelude.{◌≡◌, ℕ, ◌+◌, ◌-◌, ◌*◌, ◌/◌, ◌%◌, Bool, true, false, not, ◌&&◌, ◌||◌, ℤ, pos, ◌+ℤ◌, ◌-ℤ◌, ◌≤ℤ◌, ◌==◌, ◌≢◌, refl}
 use Rattle.std.proofs.Common.{arith, sym}
 use Rattle.std.specs.Int.Signed.{le_z_yes}
 use Rattle.std.proofs.lemmas.Int.{ints}
 use Rattle.std.proofs.lemmas.Bool.{true≢false}
-use Rattle.date.specs.Division.{floor, divisible}
+use Rattle.date.specs.Division.{divisible}
 use Rattle.date.proofs.Divisions.{one_if, floor_next, factor, floors}
 use Rattle.reckoning.specs.Rules.{Sound}
 use Rattle.solar.specs.Gregorian.{leap, before_year, gregorian}

@@ -1,4 +1,4 @@
-use Rattle.std.proofs.Common.{◌≡◌, ℕ, ◌%◌, not, eqb, ℤ, pos, nat_abs, sym, ap, ◌∙◌, arith, w32, to_z, of_z}
+use Rattle.std.proofs.Common.{◌≡◌, ℕ, ◌%◌, not, eqb, pos, nat_abs, sym, ap, ◌∙◌, arith, w32, to_z, of_z}
 use Rattle.std.proofs.lemmas.Int.{ints}
 use Rattle.solar.specs.GregorianYears.{leap_is, no_century, century, common}
 use Rattle.solar.proofs.gregorian.is_leap.Goals as goal

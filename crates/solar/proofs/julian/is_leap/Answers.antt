@@ -1,4 +1,4 @@
-use Rattle.std.proofs.Common.{◌≡◌, ℕ, ◌%◌, eqb, ℤ, pos, nat_abs, ap, ◌∙◌, arith, w32, to_z, of_z}
+use Rattle.std.proofs.Common.{◌≡◌, ℕ, eqb, pos, nat_abs, ap, ◌∙◌, arith, w32, to_z, of_z}
 use Rattle.std.proofs.lemmas.Int.{ints}
 use Rattle.solar.specs.JulianYears.{leap_is}
 use Rattle.solar.proofs.julian.is_leap.Goals as goal
