@@ -1,5 +1,5 @@
 -- The Hebrew months fill their years, and the years follow each other without a gap.
-use Rattle.std.specs.Prelude.{◌≡◌, ℕ, zero, suc, ◌+◌, ◌-◌, ◌*◌, ◌<◌, ◌≤◌, Bool, true, false, cond, ◌||◌, ℤ, pos, negsuc, ◌+ℤ◌, ◌-ℤ◌, ◌≤ℤ◌, ◌==◌, unsigned_abs, refl}
+use Rattle.std.specs.Prelude.{◌≡◌, ℕ, zero, suc, ◌+◌, ◌-◌, ◌*◌, ◌≤◌, Bool, true, false, cond, ◌||◌, ℤ, pos, negsuc, ◌+ℤ◌, ◌-ℤ◌, ◌≤ℤ◌, ◌==◌, unsigned_abs, refl}
 use Rattle.std.proofs.Common.{arith, inl, inr, sym, ap, subst, ◌∙◌}
 use Rattle.std.specs.Int.Signed.{le_z_yes}
 use Rattle.std.proofs.lemmas.Int.{ints}
@@ -10,7 +10,6 @@ use Rattle.lunar.specs.Hebrew.{new_year, year_days_lem, before_year, hebrew}
 use Rattle.lunar.specs.HebrewMonths.{complete, deficient, days, of_first, before_month}
 use Rattle.lunar.specs.HebrewYears.{Length, Regular}
 use Rattle.lunar.specs.Molad.{leap, months_before, epoch, molad, weekday}
-use Rattle.lunar.specs.Postponements.{lo_adu_lem}
 use Rattle.lunar.specs.Computed.{more}
 use Rattle.lunar.specs.NewYears.{year_fits, year_lengths, allowed_days}
 

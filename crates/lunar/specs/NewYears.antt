@@ -1,7 +1,7 @@
 -- The lengths of the Hebrew years, and the weekdays on which they begin. How long a year is put off depends on its molad's part
 -- only by the side of three limits on which it lies, and so does the year after it: between limits, one part stands for all.
-use Rattle.std.specs.Prelude.{◌≡◌, ℕ, ◌+◌, ◌-◌, ◌*◌, ◌/◌, ◌%◌, ◌<◌, ◌≤◌, Bool, true, false, cond, not, ◌&&◌, ◌||◌, T, ◌⊎◌, List, [], ◌∷◌, nat_le, refl}
-use Rattle.std.proofs.Common.{arith, inl, inr, ⊎_elim, sym}
+use Rattle.std.specs.Prelude.{◌≡◌, ℕ, ◌+◌, ◌-◌, ◌*◌, ◌%◌, ◌<◌, ◌≤◌, Bool, true, false, cond, not, ◌&&◌, T, ◌⊎◌, List, [], ◌∷◌, nat_le, refl}
+use Rattle.std.proofs.Common.{arith, inl, inr, ⊎_elim}
 use Rattle.std.proofs.lemmas.Bool.{cases_lt, true≢false}
 use Rattle.lunar.specs.Hebrew.{new_year, year_days_lem}
 use Rattle.lunar.specs.HebrewYears.{Length}

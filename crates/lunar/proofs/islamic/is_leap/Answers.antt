@@ -1,4 +1,4 @@
-use Rattle.std.proofs.Common.{◌≡◌, ℕ, ltb, ℤ, pos, nat_abs, ap, ◌∙◌, arith, w32, to_z, of_z}
+use Rattle.std.proofs.Common.{◌≡◌, ℕ, ltb, pos, nat_abs, ap, ◌∙◌, arith, w32, to_z, of_z}
 use Rattle.std.proofs.lemmas.Int.{ints}
 use Rattle.lunar.specs.IslamicYears.{leap_is}
 use Rattle.lunar.proofs.islamic.is_leap.Goals as goal
