@@ -34,6 +34,6 @@ some_date r s from to n w =
     (one.0, (f.on_exact n one.0).1 (w, one.1))
 
 pub dated_under : (x : Letter) (n : ℤ) → within n ≡ true → (d : Date) × (date_under x n ≡ Ok d)
-unfolding g.before-year j.before_year
+unfolding g.before_year j.before_year
 dated_under G n w = some_date g.gregorian gregorian_sound (le_z_yes tt) (le_z_yes tt) n w
 dated_under J n w = some_date j.julian julian_sound (le_z_yes tt) (le_z_yes tt) n w

@@ -1,11 +1,11 @@
 -- Where the reading of an input stands is told by the front of the line that is in reading.
-use Rattle.std.proofs.Common.{◌≡◌, ℕ, ◌+◌, ◌-◌, ◌^◌, ◌<◌, ◌≤◌, Bool, true, false, cond, eqb, List, [], ◌∷◌, ◌++◌, map, Some, None, Ok, Err, Option, Result, sym, refl, ap, ◌∙◌, arith}
+use Rattle.std.proofs.Common.{◌≡◌, ℕ, ◌<◌, ◌≤◌, true, false, cond, eqb, List, [], ◌∷◌, ◌++◌, map, Some, None, Ok, Err, Option, Result, sym, refl, ap, ◌∙◌, arith}
 use Rattle.std.proofs.lemmas.Bool.{cond-false, ne_eqb}
 use Rattle.date.specs.declared.faults.Fault.{Fault}
 use Rattle.concord.specs.declared.lines.Lines.{Lines}
 use Rattle.concord.specs.declared.reader.Line.{Line}
 use Rattle.concord.specs.Inputs.{last_line, lines_after, all_taken, read_alone, noted, read_on, EachAlone}
-use Rattle.concord.specs.Lines.{fresh, finished, stepped, taken, taken_by, fed, rest, rest_by}
+use Rattle.concord.specs.Lines.{fresh, finished, stepped, taken, taken_by, rest, rest_by}
 use Rattle.concord.specs.Reading.{next}
 use Rattle.concord.specs.Ways.{Next}
 

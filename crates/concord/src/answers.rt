@@ -120,7 +120,7 @@ impl fmt::Display for Column {
 
 // Writes the columns one after another.
 fn write_columns<W: fmt::Write>(columns: &[Column], f: &mut fmt::Formatter<W>) -> fmt::Result
-    ensures { WritesOnOk write_str_gives f.old result (columns_text columns.now) f.new }
+    ensures { WritesOnOk W.write_str_gives f.old result (columns_text columns.now) f.new }
 {
     for column in columns {
         write!(f, "{column}")?;

@@ -16,7 +16,7 @@ loop-column-preserved g c =
       λ plain.
           let put = so_far.2 plain in
           has_written_append g.W.Write.write_str_gives c.args.f.now so_far.0 c.loop-column.f (column_text x) c.write.new.self put
-          (c.in_ok-write.ensures.shows put.plain (refl {A = Bool} {a = true})),
+          (c.in_ok-write.ensures.writes put.plain (refl {A = Bool} {a = true})),
     )
 
 pub returns : goal.returns
