@@ -1,7 +1,7 @@
 ghost use Rattle.std.specs.Prelude.{◌≡◌};
-ghost use Rattle.calendar.specs.Piles.{meaning, reform as reform-of};
-ghost use Rattle.calendar.specs.Reforms.{unsound as unsound-at, skipped as Skipped-at, meeting, before_cut, seam as seam-of, placed};
-ghost use Rattle.std.proofs.Common.{rules};
+ghost use Rattle.calendar.specs.Piles.{meaning, calendar as calendar-of};
+ghost use Rattle.calendar.specs.Reforms.{unsound as unsound-at, skipped as skipped-at, meeting, before_cut, seam as seam-of, placed, reformed};
+ghost use Rattle.layer.specs.Sounding.{reform_sound};
 
 use calendar::calendar::{Calendar, Kind};
 use date::dates::Date;
@@ -27,7 +27,7 @@ impl Cut {
     }
 
     fn skipped(&self) -> Fault
-        ensures { result ≡ Skipped-at self.now.day }
+        ensures { result ≡ skipped-at self.now.day }
     {
         Fault::new(Cause::Skipped, 0, self.day, Cut::KIND)
     }
@@ -114,9 +114,9 @@ impl<A: Calendar, B: Calendar> Reform<A, B> {
 }
 
 impl<A: Calendar, B: Calendar> Calendar for Reform<A, B> {
-    ghost pile = { λ r. reform-of (A.Calendar.pile r.old) (B.Calendar.pile r.new) r.cut.day };
+    ghost pile = { λ r. calendar-of (reformed (meaning (A.Calendar.pile r.old)) (meaning (B.Calendar.pile r.new)) r.cut.day) };
 
-    ghost sound = { Prim.search rules };
+    ghost sound = { λ r. reform_sound (A.Calendar.pile r.old) (B.Calendar.pile r.new) r.cut.day (A.Calendar.sound r.old) (B.Calendar.sound r.new) };
 
     fn date_on(&self, day: i32) -> Result<Date, Fault> {
         if !in_range(day) {
