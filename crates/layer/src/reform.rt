@@ -85,7 +85,7 @@ impl<A: Calendar, B: Calendar> Reform<A, B> {
     }
 
     fn seam(&self) -> Result<(Date, Date), Fault>
-        ensures { result ≡ seam-of (meaning (A.Calendar.pile self.entry.now.old)) (meaning (B.Calendar.pile self.entry.now.new)) self.entry.now.cut.day }
+        ensures { result ≡ seam-of (meaning (A.Calendar.pile self.now.old)) (meaning (B.Calendar.pile self.now.new)) self.now.cut.day }
     {
         let cut = self.cut.day;
         if !in_range(cut) {
@@ -97,7 +97,7 @@ impl<A: Calendar, B: Calendar> Reform<A, B> {
 
     // The day of a date, by the seam.
     fn place(&self, date: Date, seam: Result<(Date, Date), Fault>) -> Result<i32, Fault>
-        ensures { result ≡ placed (meaning (A.Calendar.pile self.entry.now.old)) (meaning (B.Calendar.pile self.entry.now.new)) self.entry.now.cut.day date seam }
+        ensures { result ≡ placed (meaning (A.Calendar.pile self.now.old)) (meaning (B.Calendar.pile self.now.new)) self.now.cut.day date seam }
     {
         let Ok(ends) = seam else {
             let day = hand_on(self.old.day_of(date))?;
