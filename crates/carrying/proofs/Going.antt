@@ -1,31 +1,19 @@
 -- What becomes of a date that is carried from one pile to another; and with it, the law of piles.
-use Rattle.std.proofs.Common.{◌≡◌, ℕ, true, ◌⊎◌, ◌↔◌, ℤ, IfOk, Ok, Err, Result, sym, refl, ap, ◌∙◌, inl, inr, ⊎_elim, arith}
-use Rattle.calendar.specs.declared.refusing.Party.{Party}
+use Rattle.std.proofs.Common.{◌≡◌, ℕ, ◌⊎◌, ◌↔◌, ℤ, Ok, Err, Result, sym, ap, ◌∙◌, inl, inr, ⊎_elim, arith}
 use Rattle.calendar.specs.declared.refusing.Party.TheVariants.{First, Second}
 use Rattle.calendar.specs.declared.refusing.Refused.{Refused}
 use Rattle.carrying.specs.Carries.{Carries}
 use Rattle.calendar.specs.Parties.{told_by, number_of}
 use Rattle.carrying.specs.Piles.{Pile, meaning, Sound}
-use Rattle.calendar.proofs.Laws.{ok_not_err, found_within}
-use Rattle.carrying.specs.Carried.{carried}
+use Rattle.calendar.proofs.Laws.{ok_not_err, told_ok}
+use Rattle.calendar.specs.Carrying.{carried}
 use Rattle.carrying.specs.Law.{TheLawOfPiles}
 use Rattle.carrying.specs.Travelling.{NoDay, NoDateThere, Travels}
-use Rattle.carrying.proofs.Piling.{lawful, answers}
-use Rattle.carrying.proofs.Results.{cases_result, then_so, to_then}
+use Rattle.carrying.proofs.Piling.{answers}
+use Rattle.carrying.specs.Results.{cases_result, then_so, to_then}
 use Rattle.date.specs.declared.dates.Date.{Date}
 use Rattle.date.specs.declared.faults.Fault.{Fault}
-use Rattle.date.specs.Days.{within}
 use Rattle.date.specs.Refusals.{then}
-
--- an answer told as a party's is the answer
-pub told_ok : {X : Type 0} (p : Party) (r : Result X Fault) (x : X) → told_by p r ≡ Ok x → r ≡ Ok x
-told_ok p (Ok y) x h = cc
-told_ok p (Err f) x h = ok_not_err _ x _ h refl
-
--- the day that a pile finds of a date is in the range, as a party's answer too
-pub found_inside : (p : Pile) → Sound p → (q : Party) (d : Date) (r : Result ℤ Refused) → r ≡ told_by q ((meaning p).of d) → IfOk r (λ n. within n ≡ true)
-found_inside p s q d (Ok n) h = found_within (meaning p) (lawful p s) n d (told_ok q ((meaning p).of d) n (sym h))
-found_inside p s q d (Err f) h = tt
 
 first_not_second : {G : Type 0} → First ≡ Second → G
 first_not_second h = let z : ◌≡◌ {A = ℕ} 1 2 = ap number_of h in absurd (omega arith)

@@ -1,5 +1,5 @@
 -- Every pile whose calendars keep the law keeps it, and answers as its days carry dates.
-use Rattle.std.proofs.Common.{◌≡◌, ◌⊎◌, ◌↔◌, List, ℤ, pos, ◌-ℤ◌, Ok, Err, Result, inl, inr, ⊎_elim}
+use Rattle.std.proofs.Common.{◌≡◌, ◌↔◌, List, ℤ, pos, ◌-ℤ◌, Ok, Err, Result, inl, inr, ⊎_elim}
 use Rattle.calendar.specs.declared.rows.Row.{Row}
 use Rattle.carrying.specs.Carries.{ByReform, ByStyle, ByEra, Carries}
 use Rattle.calendar.specs.Meaning.{Lawful}
@@ -7,10 +7,10 @@ use Rattle.carrying.specs.Piles.{Pile, calendar, reform, style, era, meaning, So
 use Rattle.calendar.specs.Styles.{YearStyle}
 use Rattle.calendar.proofs.Laws.{ok_not_err}
 use Rattle.carrying.specs.Answering.{Answers}
-use Rattle.carrying.proofs.Counting.{era_carries, era_lawful}
-use Rattle.carrying.proofs.Reforming.{reform_on, reform_lawful}
-use Rattle.carrying.proofs.Results.{cases_result}
-use Rattle.carrying.proofs.Styling.{style_on, style_lawful}
+use Rattle.carrying.specs.Counting.{era_carries, era_lawful}
+use Rattle.carrying.specs.Reforming.{reform_on, reform_lawful}
+use Rattle.carrying.specs.Results.{cases_result}
+use Rattle.carrying.specs.Styling.{style_on, style_lawful}
 use Rattle.date.specs.declared.dates.Date.{Date}
 
 pub lawful : (p : Pile) → Sound p → Lawful (meaning p)

@@ -1,6 +1,11 @@
 pub mod Piles
 pub mod Carries
-pub mod Carried
 pub mod Answering
 pub mod Travelling
 pub mod Law
+pub mod Results
+pub mod Days
+pub mod Reforming
+pub mod Styling
+pub mod Begun
+pub mod Counting

@@ -1,2 +1,3 @@
 pub mod StyleRules
 pub mod Tables
+pub mod Sounding

@@ -1,7 +1,7 @@
 ghost use Rattle.std.specs.Prelude.{◌≡◌};
-ghost use Rattle.calendar.specs.Piles.{meaning, reform as reform-of};
-ghost use Rattle.calendar.specs.Reforms.{unsound as unsound-at, skipped as Skipped-at, meeting, before_cut, seam as seam-of, placed};
-ghost use Rattle.std.proofs.Common.{rules};
+ghost use Rattle.calendar.specs.Piles.{meaning, calendar as calendar-of};
+ghost use Rattle.calendar.specs.Reforms.{unsound as unsound-at, skipped as skipped-at, meeting, before_cut, seam as seam-of, placed, reformed};
+ghost use Rattle.layer.specs.Sounding.{reform_sound};
 
 use calendar::calendar::{Calendar, Kind};
 use date::dates::Date;
@@ -27,7 +27,7 @@ impl Cut {
     }
 
     fn skipped(&self) -> Fault
-        ensures { result ≡ Skipped-at self.now.day }
+        ensures { result ≡ skipped-at self.now.day }
     {
         Fault::new(Cause::Skipped, 0, self.day, Cut::KIND)
     }
@@ -85,7 +85,7 @@ impl<A: Calendar, B: Calendar> Reform<A, B> {
     }
 
     fn seam(&self) -> Result<(Date, Date), Fault>
-        ensures { result ≡ seam-of (meaning (A.Calendar.pile self.entry.now.old)) (meaning (B.Calendar.pile self.entry.now.new)) self.entry.now.cut.day }
+        ensures { result ≡ seam-of (meaning (A.Calendar.pile self.now.old)) (meaning (B.Calendar.pile self.now.new)) self.now.cut.day }
     {
         let cut = self.cut.day;
         if !in_range(cut) {
@@ -97,7 +97,7 @@ impl<A: Calendar, B: Calendar> Reform<A, B> {
 
     // The day of a date, by the seam.
     fn place(&self, date: Date, seam: Result<(Date, Date), Fault>) -> Result<i32, Fault>
-        ensures { result ≡ placed (meaning (A.Calendar.pile self.entry.now.old)) (meaning (B.Calendar.pile self.entry.now.new)) self.entry.now.cut.day date seam }
+        ensures { result ≡ placed (meaning (A.Calendar.pile self.now.old)) (meaning (B.Calendar.pile self.now.new)) self.now.cut.day date seam }
     {
         let Ok(ends) = seam else {
             let day = hand_on(self.old.day_of(date))?;
@@ -114,9 +114,9 @@ impl<A: Calendar, B: Calendar> Reform<A, B> {
 }
 
 impl<A: Calendar, B: Calendar> Calendar for Reform<A, B> {
-    ghost pile = { λ r. reform-of (A.Calendar.pile r.old) (B.Calendar.pile r.new) r.cut.day };
+    ghost pile = { λ r. calendar-of (reformed (meaning (A.Calendar.pile r.old)) (meaning (B.Calendar.pile r.new)) r.cut.day) };
 
-    ghost sound = { Prim.search rules };
+    ghost sound = { λ r. reform_sound (A.Calendar.pile r.old) (B.Calendar.pile r.new) r.cut.day (A.Calendar.sound r.old) (B.Calendar.sound r.new) };
 
     fn date_on(&self, day: i32) -> Result<Date, Fault> {
         if !in_range(day) {

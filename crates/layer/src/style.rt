@@ -1,8 +1,8 @@
 ghost use Rattle.std.specs.Prelude.{◌≡◌, pos, ◌+ℤ◌, ◌-ℤ◌};
-ghost use Rattle.calendar.specs.Piles.{style as style-of};
-ghost use Rattle.calendar.specs.Styles.{mark_of, renumbered, restyled, numbered_back, unstyled};
+ghost use Rattle.calendar.specs.Piles.{meaning, calendar as calendar-of};
+ghost use Rattle.calendar.specs.Styles.{mark_of, renumbered, restyled, numbered_back, unstyled, styled};
+ghost use Rattle.layer.specs.Sounding.{style_sound};
 ghost use Rattle.layer.specs.StyleRules.{style_fits, ruled, year_style};
-ghost use Rattle.std.proofs.Common.{rules};
 
 use calendar::calendar::{Calendar, Kind};
 use date::dates::Date;
@@ -145,9 +145,9 @@ impl<C: Calendar> Style<C> {
 }
 
 impl<C: Calendar> Calendar for Style<C> {
-    ghost pile = { λ s. style-of (year_style s.rule) (C.Calendar.pile s.below) };
+    ghost pile = { λ s. calendar-of (styled (year_style s.rule) (meaning (C.Calendar.pile s.below))) };
 
-    ghost sound = { Prim.search rules };
+    ghost sound = { λ s. style_sound (year_style s.rule) (C.Calendar.pile s.below) (C.Calendar.sound s.below) };
 
     fn date_on(&self, day: i32) -> Result<Date, Fault> {
         if !in_range(day) {

@@ -1,8 +1,8 @@
 ghost use Rattle.std.specs.Prelude.{◌≡◌, [], pos, ◌+ℤ◌, ◌-ℤ◌};
-ghost use Rattle.calendar.specs.Eras.{outside_era, first_year as first-year-of, raised, in_row, reckoned, lowered, from_row, unreckoned};
-ghost use Rattle.calendar.specs.Piles.{meaning, era as era-of};
+ghost use Rattle.calendar.specs.Eras.{outside_era, first_year as first-year-of, raised, in_row, reckoned, lowered, from_row, unreckoned, with_eras};
+ghost use Rattle.calendar.specs.Piles.{meaning, calendar as calendar-of};
+ghost use Rattle.layer.specs.Sounding.{era_sound};
 ghost use Rattle.layer.specs.Tables.{used, may_add, with_row, may_amend, with_number, done_if};
-ghost use Rattle.std.proofs.Common.{rules, arith};
 
 use crate::era::Era;
 use crate::table::Table;
@@ -145,9 +145,9 @@ impl<C: Calendar> Era<C> {
 }
 
 impl<C: Calendar> Calendar for Era<C> {
-    ghost pile = { λ e. era-of (used e.table) (C.Calendar.pile e.below) };
+    ghost pile = { λ e. calendar-of (with_eras (used e.table) (meaning (C.Calendar.pile e.below))) };
 
-    ghost sound = { first_of (Prim.search rules, Prim.grind (arith, Self.row.coded.inj)) };
+    ghost sound = { λ e. era_sound (used e.table) (C.Calendar.pile e.below) (C.Calendar.sound e.below) };
 
     fn date_on(&self, day: i32) -> Result<Date, Fault> {
         if !in_range(day) {

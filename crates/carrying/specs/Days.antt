@@ -2,7 +2,7 @@
 use Rattle.std.proofs.Common.{◌≡◌, ◌<◌, ◌≤◌, ℤ, ◌≤ℤ◌, ◌<ℤ◌, Ok, sym, ap, ◌∙◌, arith}
 use Rattle.std.proofs.lemmas.Int.{ints, by_lt_z}
 use Rattle.calendar.specs.Meaning.{Meaning, Lawful}
-use Rattle.carrying.proofs.Results.{same_ok}
+use Rattle.carrying.specs.Results.{same_ok}
 use Rattle.date.specs.declared.dates.Date.{Date}
 use Rattle.date.proofs.Keys.{key, before}
 

@@ -6,7 +6,7 @@ use Rattle.std.proofs.lemmas.Bool.{cond-true, cond-false, cases_order}
 use Rattle.calendar.specs.declared.rows.Row.{Row}
 use Rattle.carrying.specs.Carries.{LastBegun, NoneBegun}
 use Rattle.calendar.specs.Rows.{at_place, row_of, last_with, era_on}
-use Rattle.carrying.proofs.Results.{by_bool, same_some, none_not_some}
+use Rattle.carrying.specs.Results.{by_bool, same_some, none_not_some}
 
 -- no row from a place on began by the day n
 abbrev NoneFrom : List Row → ℕ → ℤ → Type 0

@@ -1,5 +1,5 @@
 -- A reform of two calendars that keep the law keeps it, and its days carry the dates that the rule says.
-use Rattle.std.proofs.Common.{◌≡◌, ◌<◌, ◌≤◌, true, false, ◌↔◌, ℤ, pos, ◌-ℤ◌, ◌≤ℤ◌, ◌<ℤ◌, Ok, Err, Result, sym, refl, ap, ◌∙◌, inl, inr, arith}
+use Rattle.std.proofs.Common.{◌≡◌, true, false, ◌↔◌, ℤ, pos, ◌-ℤ◌, ◌≤ℤ◌, ◌<ℤ◌, Ok, Err, Result, sym, refl, ap, ◌∙◌, inl, inr, arith}
 use lib.Signed.{lt_z}
 use Rattle.std.proofs.lemmas.Int.{ints}
 use Rattle.std.proofs.lemmas.Bool.{cond-true, cond-false}
@@ -7,8 +7,8 @@ use Rattle.carrying.specs.Carries.{ByReform}
 use Rattle.calendar.specs.Meaning.{Meaning, Lawful}
 use Rattle.calendar.specs.Reforms.{meeting, seam, before_cut, placed, reformed}
 use Rattle.calendar.proofs.Laws.{ok_not_err, dated_within}
-use Rattle.carrying.proofs.Days.{not_later, not_later_back}
-use Rattle.carrying.proofs.Results.{by_bool, same_ok, from_handed, by_true, then_so, to_then}
+use Rattle.carrying.specs.Days.{not_later, not_later_back}
+use Rattle.carrying.specs.Results.{by_bool, same_ok, from_handed, by_true, then_so, to_then}
 use Rattle.date.specs.declared.dates.Date.{Date}
 use Rattle.date.specs.declared.faults.Fault.{Fault}
 use Rattle.date.specs.Days.{within}

@@ -6,8 +6,8 @@ use Rattle.carrying.specs.Carries.{BeforeStart, YearTold, Styled, ByStyle}
 use Rattle.calendar.specs.Meaning.{Meaning, Lawful}
 use Rattle.calendar.specs.Styles.{YearStyle, mark_of, restyled, unstyled, styled}
 use Rattle.calendar.proofs.Laws.{dated_within}
-use Rattle.carrying.proofs.Days.{sooner}
-use Rattle.carrying.proofs.Results.{from_handed, from_replaced, by_true, then_so, to_then}
+use Rattle.carrying.specs.Days.{sooner}
+use Rattle.carrying.specs.Results.{from_handed, from_replaced, by_true, then_so, to_then}
 use Rattle.date.specs.declared.dates.Date.{Date}
 use Rattle.date.specs.Days.{within}
 use Rattle.date.specs.Order.{by_nat, decide}

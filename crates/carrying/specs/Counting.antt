@@ -1,5 +1,5 @@
 -- Eras over a calendar that keeps the law keep it, and their days carry the dates that the rule says.
-use Rattle.std.proofs.Common.{◌≡◌, ℕ, suc, ◌+◌, ◌*◌, ◌<◌, Bool, true, eqb, ◌⊎◌, ◌↔◌, List, ℤ, pos, ◌+ℤ◌, ◌-ℤ◌, ◌<ℤ◌, Ok, Err, Result, sym, refl, ap, ◌∙◌, subst, inl, inr, ⊎_elim, arith}
+use Rattle.std.proofs.Common.{◌≡◌, ℕ, suc, ◌+◌, ◌*◌, ◌<◌, Bool, true, eqb, ◌↔◌, List, ℤ, pos, ◌+ℤ◌, ◌-ℤ◌, ◌<ℤ◌, Ok, Err, Result, sym, refl, ap, ◌∙◌, subst, inl, inr, ⊎_elim, arith}
 use Rattle.std.proofs.lemmas.Int.{ints}
 use Rattle.std.proofs.lemmas.Bool.{eqb-true, eqb-false, eq-eqb, ne_eqb, lt-ltb, cond-true, cond-false, cases_order}
 use Rattle.calendar.specs.declared.rows.Row.{Row}
@@ -8,9 +8,9 @@ use Rattle.calendar.specs.Eras.{bare_year, first_year, raised, in_row, reckoned,
 use Rattle.calendar.specs.Meaning.{Meaning, Lawful}
 use Rattle.calendar.specs.Rows.{row_of, era_on}
 use Rattle.calendar.proofs.Laws.{ok_not_err, dated_within}
-use Rattle.carrying.proofs.Begun.{begun, era_none, era_last, last_some, era_grows}
-use Rattle.carrying.proofs.Days.{sooner}
-use Rattle.carrying.proofs.Results.{by_bool, same_ok, same_some, from_handed, from_replaced, by_true, then_so, to_then}
+use Rattle.carrying.specs.Begun.{begun, era_none, era_last, last_some, era_grows}
+use Rattle.carrying.specs.Days.{sooner}
+use Rattle.carrying.specs.Results.{by_bool, same_ok, same_some, from_handed, from_replaced, by_true, then_so, to_then}
 use Rattle.date.specs.declared.dates.Date.{Date}
 use Rattle.date.specs.declared.faults.Fault.{Fault}
 use Rattle.date.specs.Days.{within}
