@@ -45,6 +45,8 @@ def own_names(paths):
         for line in text.split("\n"):
             m = IMPORT.match(line)
             if m:
+                for alias in re.findall(r" as (" + WORD + ")", m.group(2)):
+                    own.setdefault(alias, []).append(path)
                 crate = m.group(1).split(".")[1] if m.group(1).startswith("Rattle.") else ""
                 if not glob.glob("crates/" + crate + "/") or not crate:
                     library |= {n.strip().split(" as ")[0] for n in m.group(2).split(",")}

@@ -1,6 +1,6 @@
 ghost use Rattle.std.specs.Prelude.{◌≡◌};
-ghost use Rattle.calendar.specs.Piles.{meaning, calendar as calendar-of};
-ghost use Rattle.calendar.specs.Reforms.{unsound as unsound-at, skipped as skipped-at, meeting, before_cut, seam as seam-of, placed, reformed};
+ghost use Rattle.calendar.specs.Piles.{meaning, calendar as calendar_of};
+ghost use Rattle.calendar.specs.Reforms.{unsound as unsound_at, skipped as skipped_at, meeting, before_cut, seam as seam_of, placed, reformed};
 ghost use Rattle.layer.specs.Sounding.{reform_sound};
 
 use calendar::calendar::{Calendar, Kind};
@@ -21,13 +21,13 @@ impl Kind for Cut {
 
 impl Cut {
     fn unsound(&self) -> Fault
-        ensures { result ≡ unsound-at self.now.day }
+        ensures { result ≡ unsound_at self.now.day }
     {
         Fault::new(Cause::UnsoundSeam, 0, self.day, Cut::KIND)
     }
 
     fn skipped(&self) -> Fault
-        ensures { result ≡ skipped-at self.now.day }
+        ensures { result ≡ skipped_at self.now.day }
     {
         Fault::new(Cause::Skipped, 0, self.day, Cut::KIND)
     }
@@ -85,7 +85,7 @@ impl<A: Calendar, B: Calendar> Reform<A, B> {
     }
 
     fn seam(&self) -> Result<(Date, Date), Fault>
-        ensures { result ≡ seam-of (meaning (A.Calendar.pile self.now.old)) (meaning (B.Calendar.pile self.now.new)) self.now.cut.day }
+        ensures { result ≡ seam_of (meaning (A.Calendar.pile self.now.old)) (meaning (B.Calendar.pile self.now.new)) self.now.cut.day }
     {
         let cut = self.cut.day;
         if !in_range(cut) {
@@ -114,7 +114,7 @@ impl<A: Calendar, B: Calendar> Reform<A, B> {
 }
 
 impl<A: Calendar, B: Calendar> Calendar for Reform<A, B> {
-    ghost pile = { λ r. calendar-of (reformed (meaning (A.Calendar.pile r.old)) (meaning (B.Calendar.pile r.new)) r.cut.day) };
+    ghost pile = { λ r. calendar_of (reformed (meaning (A.Calendar.pile r.old)) (meaning (B.Calendar.pile r.new)) r.cut.day) };
 
     ghost sound = { λ r. reform_sound (A.Calendar.pile r.old) (B.Calendar.pile r.new) r.cut.day (A.Calendar.sound r.old) (B.Calendar.sound r.new) };
 

@@ -1,5 +1,5 @@
 ghost use Rattle.std.specs.Prelude.{◌≡◌, pos, ◌+ℤ◌, ◌-ℤ◌};
-ghost use Rattle.calendar.specs.Piles.{meaning, calendar as calendar-of};
+ghost use Rattle.calendar.specs.Piles.{meaning, calendar as calendar_of};
 ghost use Rattle.calendar.specs.Styles.{mark_of, renumbered, restyled, numbered_back, unstyled, styled};
 ghost use Rattle.layer.specs.Sounding.{style_sound};
 ghost use Rattle.layer.specs.StyleRules.{style_fits, ruled, year_style};
@@ -145,7 +145,7 @@ impl<C: Calendar> Style<C> {
 }
 
 impl<C: Calendar> Calendar for Style<C> {
-    ghost pile = { λ s. calendar-of (styled (year_style s.rule) (meaning (C.Calendar.pile s.below))) };
+    ghost pile = { λ s. calendar_of (styled (year_style s.rule) (meaning (C.Calendar.pile s.below))) };
 
     ghost sound = { λ s. style_sound (year_style s.rule) (C.Calendar.pile s.below) (C.Calendar.sound s.below) };
 

@@ -1,6 +1,6 @@
 ghost use Rattle.std.specs.Prelude.{◌≡◌, true, [], pos};
 ghost use Rattle.calendar.specs.Eras.{belonging};
-ghost use Rattle.calendar.specs.Rows.{row_of, era_on as era-of};
+ghost use Rattle.calendar.specs.Rows.{row_of, era_on as era_of};
 ghost use Rattle.layer.specs.Tables.{number_fits, follows, last_first_lem, used, table_fits, may_add, with_row, may_amend, with_number, done_if};
 
 use calendar::calendar::Kind;
@@ -104,7 +104,7 @@ impl Table {
     // The number of the last row that began by the day, and 0 where none did.
     fn last_begun(&self, day: i32) -> usize
         requires { table_fits self.now ≡ true }
-        ensures { result ≡ era-of (used self.now) day }
+        ensures { result ≡ era_of (used self.now) day }
     {
         let mut era = self.len;
         while era > 0 && self.rows[era - 1].first > day {
@@ -115,7 +115,7 @@ impl Table {
 
     pub(crate) fn era_on(&self, day: i32) -> u8
         requires { table_fits self.now ≡ true }
-        ensures { result ≡ era-of (used self.now) day }
+        ensures { result ≡ era_of (used self.now) day }
     {
         self.last_begun(day) as u8
     }

@@ -1,8 +1,8 @@
 ghost use Rattle.std.specs.Prelude.{◌≡◌, ◌≤◌, pos, ◌≤ℤ◌, unsigned_abs};
-ghost use Rattle.lunar.specs.Hebrew.{year_days_lem, before_year, hebrew as hebrew-rule};
+ghost use Rattle.lunar.specs.Hebrew.{year_days_lem, before_year, hebrew as hebrew_rule};
 ghost use Rattle.lunar.specs.HebrewMonths.{days, before_month};
 ghost use Rattle.lunar.specs.HebrewYears.{Regular};
-ghost use Rattle.lunar.specs.Molad.{leap as leap-in};
+ghost use Rattle.lunar.specs.Molad.{leap as leap_in};
 ghost use Rattle.reckoning.specs.Rules.{end as last_of};
 ghost use Rattle.lunar.specs.HebrewLaws.{hebrew_sound};
 
@@ -84,27 +84,27 @@ fn days_before_month(leap: bool, year_days: u16, month: u8) -> u16
 // The days of a month of the year, and those of the year before it.
 fn length_in(year: i32, month: u8) -> u8
     requires { (pos 1 ≤ℤ year) × (year ≤ℤ pos 99999) }
-    ensures { result ≡ days (leap-in (unsigned_abs year)) (year_days_lem (unsigned_abs year)) month }
+    ensures { result ≡ days (leap_in (unsigned_abs year)) (year_days_lem (unsigned_abs year)) month }
 {
     days_in(is_leap(year as u64), days_of_year(year), month)
 }
 
 fn elapsed_in(year: i32, month: u8) -> u16
     requires { (pos 1 ≤ℤ year) × ((year ≤ℤ pos 99999) × ((1 ≤ month) × (month ≤ 13))) }
-    ensures { result ≡ before_month (leap-in (unsigned_abs year)) (year_days_lem (unsigned_abs year)) month }
+    ensures { result ≡ before_month (leap_in (unsigned_abs year)) (year_days_lem (unsigned_abs year)) month }
 {
     days_before_month(is_leap(year as u64), days_of_year(year), month)
 }
 
 // The last day of the last year.
 fn end() -> i32
-    ensures { result ≡ last_of hebrew-rule }
+    ensures { result ≡ last_of hebrew_rule }
 {
     35_150_867
 }
 
 impl Reckoning for Hebrew {
-    ghost rule = { λ _. hebrew-rule };
+    ghost rule = { λ _. hebrew_rule };
 
     ghost sound = { λ c. hebrew_sound };
 

@@ -1,5 +1,5 @@
 ghost use Rattle.std.specs.Prelude.{◌≡◌, ◌≤◌, pos, ◌≤ℤ◌};
-ghost use Rattle.lunar.specs.Islamic.{leap as leap-in, before_year, days, before_month, islamic as islamic-rule};
+ghost use Rattle.lunar.specs.Islamic.{leap as leap_in, before_year, days, before_month, islamic as islamic_rule};
 ghost use Rattle.reckoning.specs.Rules.{end as last_of};
 ghost use Rattle.lunar.specs.IslamicYears.{islamic_sound};
 
@@ -21,7 +21,7 @@ impl Kind for Islamic {
 // Eleven years of thirty.
 fn is_leap(year: i32) -> bool
     requires { pos 1 ≤ℤ year }
-    ensures { result ≡ leap-in year }
+    ensures { result ≡ leap_in year }
 {
     divide(11 * year as u64 + 14, 30).1 < 11
 }
@@ -58,13 +58,13 @@ fn days_before_month(month: u8) -> u16
 
 // The last day of the last year.
 fn end() -> i32
-    ensures { result ≡ last_of islamic-rule }
+    ensures { result ≡ last_of islamic_rule }
 {
     35_663_326
 }
 
 impl Reckoning for Islamic {
-    ghost rule = { λ _. islamic-rule };
+    ghost rule = { λ _. islamic_rule };
 
     ghost sound = { λ c. islamic_sound };
 

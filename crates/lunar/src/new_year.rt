@@ -1,6 +1,6 @@
 ghost use Rattle.std.specs.Prelude.{◌≡◌, ◌<◌, ◌≤◌};
 ghost use Rattle.lunar.specs.Hebrew.{new_year};
-ghost use Rattle.lunar.specs.Molad.{leap as leap-in, molad_day, molad_part};
+ghost use Rattle.lunar.specs.Molad.{leap as leap_in, molad_day, molad_part};
 ghost use Rattle.lunar.specs.Postponements.{molad_zaken_lem, lo_adu_lem, gatarad, betutakpat, by_weekday, delay};
 
 use date::division::divide;
@@ -23,7 +23,7 @@ const FRIDAY: u64 = 5;
 // Seven years of nineteen.
 pub(crate) fn is_leap(year: u64) -> bool
     requires { year ≤ 100000 }
-    ensures { result ≡ leap-in year }
+    ensures { result ≡ leap_in year }
 {
     divide(7 * year + 1, 19).1 < 7
 }

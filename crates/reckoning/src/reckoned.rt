@@ -1,9 +1,9 @@
 ghost use Rattle.std.specs.Prelude.{◌≡◌, ◌≤◌, true, pos, ◌+ℤ◌, ◌≤ℤ◌, ◌<ℤ◌};
-ghost use Rattle.calendar.specs.Piles.{calendar as calendar-of};
+ghost use Rattle.calendar.specs.Piles.{calendar as calendar_of};
 ghost use Rattle.date.specs.Days.{within};
 ghost use Rattle.reckoning.specs.Faith.{Faithful};
 ghost use Rattle.reckoning.specs.Held.{HoldsYear, HoldsMonth};
-ghost use Rattle.reckoning.specs.Reckoned.{reckoned as reckoned-by, misdated as misdated-by, has_year_lem, month_days, dated_on, on, of};
+ghost use Rattle.reckoning.specs.Reckoned.{reckoned as reckoned_by, misdated as misdated_by, has_year_lem, month_days, dated_on, on, of};
 ghost use Rattle.reckoning.specs.Rules.{end as last_of};
 ghost use Rattle.reckoning.specs.Faiths.{rule_lawful};
 
@@ -103,7 +103,7 @@ fn days_in<R: Reckoning>(r: &R, year: i32, month: u8) -> u8
 
 // The number of the first field of the date that the rule does not have, and 0 where it has them all.
 fn misdated<R: Reckoning>(r: &R, date: &Date) -> usize
-    ensures { result ≡ misdated-by (R.rule r.now) date.now }
+    ensures { result ≡ misdated_by (R.rule r.now) date.now }
 {
     if date.era() != 0 {
         return 1;
@@ -126,7 +126,7 @@ fn misdated<R: Reckoning>(r: &R, date: &Date) -> usize
 
 // The day of a date whose fields the rule has.
 fn count<R: Reckoning>(r: &R, date: &Date) -> i32
-    requires { misdated-by (R.rule r.now) date.now ≡ 0 }
+    requires { misdated_by (R.rule r.now) date.now ≡ 0 }
     ensures { result ≡ (R.rule r.now).start date.now.year date.now.month +ℤ pos date.now.day }
 {
     let year = date.year();
@@ -162,7 +162,7 @@ fn day_by<R: Reckoning>(r: &R, date: Date) -> Result<i32, Fault>
 }
 
 impl<R: Reckoning> Calendar for Reckoned<R> {
-    ghost pile = { λ c. calendar-of (reckoned-by (R.Reckoning.rule c.by)) };
+    ghost pile = { λ c. calendar_of (reckoned_by (R.Reckoning.rule c.by)) };
 
     ghost sound = { λ c. rule_lawful _ (R.Reckoning.sound c.by) };
 

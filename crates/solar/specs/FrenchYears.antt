@@ -8,8 +8,8 @@ use Rattle.date.specs.Division.{divisible}
 use Rattle.date.proofs.Divisions.{one_if, floor_next, factor}
 use Rattle.reckoning.specs.Rules.{Sound}
 use Rattle.solar.specs.French.{leap, before_year, french}
-use Rattle.solar.specs.Gregorian.{leap as gregorian-leap, before_year as before-gregorian}
-use Rattle.solar.specs.GregorianYears.{turns as gregorian-turns}
+use Rattle.solar.specs.Gregorian.{leap as gregorian_leap, before_year as before_gregorian}
+use Rattle.solar.specs.GregorianYears.{turns as gregorian_turns}
 use Rattle.solar.specs.ThirtyMonths.{thirty_sound}
 
 -- a year divisible by 4,000 would be leap, and is not
@@ -19,8 +19,8 @@ counts true false p = refl
 counts false true p = absurd (true≢false (sym (p refl)))
 counts false false p = refl
 
-would_be_leap : (y : ℤ) → divisible y 4000 ≡ true → gregorian-leap y ≡ true
-unfolding gregorian-leap
+would_be_leap : (y : ℤ) → divisible y 4000 ≡ true → gregorian_leap y ≡ true
+unfolding gregorian_leap
 would_be_leap y h =
     let a : divisible y 4 ≡ true = factor y 1000 4 (omega arith) (omega arith) h in
     let b : divisible y 400 ≡ true = factor y 10 400 (omega arith) (omega arith) h in
@@ -34,21 +34,21 @@ turns : (y : ℤ) → before_year (y +ℤ pos 1) ≡ before_year y +ℤ pos (365
 unfolding before_year leap
 turns y =
     let same : y +ℤ pos 1 -ℤ pos 1 ≡ y = omega (arith, ints) in
-    let a = gregorian-turns y in
+    let a = gregorian_turns y in
     let b = floor_next y 4000 (omega arith) in
-    let d = counts (gregorian-leap y) (divisible y 4000) (would_be_leap y) in
+    let d = counts (gregorian_leap y) (divisible y 4000) (would_be_leap y) in
     rw (same, a) (omega (arith, ints))
 
 pub french_sound : Sound french
-unfolding before_year before-gregorian
+unfolding before_year before_gregorian
 french_sound = thirty_sound 6 before_year leap turns (le_z_yes tt) (le_z_yes tt)
 
 -- the test in natural numbers
-pub leap_is : (y : ℤ) (n : ℕ) → pos n ≡ y → (gregorian-leap y && not (n % 4000 == 0)) ≡ leap y
+pub leap_is : (y : ℤ) (n : ℕ) → pos n ≡ y → (gregorian_leap y && not (n % 4000 == 0)) ≡ leap y
 unfolding leap
 leap_is y n e = rw (← e) refl
 
 -- the count with the 4,000th years counted in natural numbers
-pub count_is : (y : ℤ) (n a : ℕ) → pos n ≡ y -ℤ pos 1 → a ≡ n / 4000 → pos 654414 +ℤ before-gregorian y -ℤ pos a ≡ before_year y
+pub count_is : (y : ℤ) (n a : ℕ) → pos n ≡ y -ℤ pos 1 → a ≡ n / 4000 → pos 654414 +ℤ before_gregorian y -ℤ pos a ≡ before_year y
 unfolding before_year
 count_is y n a e p = rw (← e, p) refl

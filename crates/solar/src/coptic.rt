@@ -1,6 +1,6 @@
 ghost use Rattle.std.specs.Prelude.{◌≡◌, pos, ◌≤ℤ◌};
 ghost use Rattle.reckoning.specs.Rules.{end as last_of};
-ghost use Rattle.solar.specs.Coptic.{leap, before_year, coptic as coptic-rule};
+ghost use Rattle.solar.specs.Coptic.{leap, before_year, coptic as coptic_rule};
 ghost use Rattle.solar.specs.CopticYears.{coptic_sound};
 
 use crate::{thirty, years};
@@ -34,13 +34,13 @@ fn days_before(year: i32) -> i32
 
 // The last day of the last year.
 fn end() -> i32
-    ensures { result ≡ last_of coptic-rule }
+    ensures { result ≡ last_of coptic_rule }
 {
     36_628_239
 }
 
 impl Reckoning for Coptic {
-    ghost rule = { λ _. coptic-rule };
+    ghost rule = { λ _. coptic_rule };
 
     ghost sound = { λ c. coptic_sound };
 

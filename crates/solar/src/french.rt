@@ -1,6 +1,6 @@
 ghost use Rattle.std.specs.Prelude.{◌≡◌, pos, ◌≤ℤ◌};
 ghost use Rattle.reckoning.specs.Rules.{end as last_of};
-ghost use Rattle.solar.specs.French.{leap, before_year, french as french-rule};
+ghost use Rattle.solar.specs.French.{leap, before_year, french as french_rule};
 ghost use Rattle.solar.specs.FrenchYears.{french_sound};
 
 use crate::{gregorian, thirty, years};
@@ -34,13 +34,13 @@ fn days_before(year: i32) -> i32
 
 // The last day of the last year.
 fn end() -> i32
-    ensures { result ≡ last_of french-rule }
+    ensures { result ≡ last_of french_rule }
 {
     37_178_274
 }
 
 impl Reckoning for French {
-    ghost rule = { λ _. french-rule };
+    ghost rule = { λ _. french_rule };
 
     ghost sound = { λ c. french_sound };
 

@@ -1,7 +1,7 @@
 ghost use Rattle.std.specs.Prelude.{◌≡◌, true, pos, negsuc, ◌≤ℤ◌};
 ghost use Rattle.date.specs.Days.{within};
 ghost use Rattle.reckoning.specs.Rules.{end as last_of};
-ghost use Rattle.solar.specs.Gregorian.{leap, before_year, gregorian as gregorian-rule};
+ghost use Rattle.solar.specs.Gregorian.{leap, before_year, gregorian as gregorian_rule};
 ghost use Rattle.solar.specs.GregorianYears.{gregorian_sound};
 
 use crate::{civil, years};
@@ -39,7 +39,7 @@ pub(crate) fn days_before(year: i32) -> i32
 
 // The last day of the last year.
 fn end() -> i32
-    ensures { result ≡ last_of gregorian-rule }
+    ensures { result ≡ last_of gregorian_rule }
 {
     36_523_884
 }
@@ -52,7 +52,7 @@ pub(crate) fn year_near(day: i32) -> i32
 }
 
 impl Reckoning for Gregorian {
-    ghost rule = { λ _. gregorian-rule };
+    ghost rule = { λ _. gregorian_rule };
 
     ghost sound = { λ c. gregorian_sound };
 

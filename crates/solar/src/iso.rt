@@ -1,6 +1,6 @@
 ghost use Rattle.std.specs.Prelude.{◌≡◌, ◌≤◌, pos, ◌-ℤ◌, ◌≤ℤ◌};
 ghost use Rattle.reckoning.specs.Rules.{end as last_of};
-ghost use Rattle.solar.specs.Iso.{week_one, weeks, before_week, iso as iso-rule};
+ghost use Rattle.solar.specs.Iso.{week_one, weeks, before_week, iso as iso_rule};
 ghost use Rattle.solar.specs.WholeWeeks.{Whole};
 ghost use Rattle.solar.specs.IsoYears.{iso_sound};
 
@@ -57,13 +57,13 @@ fn days_before_week(week: u8) -> u16
 
 // The last day of the last year.
 fn end() -> i32
-    ensures { result ≡ last_of iso-rule }
+    ensures { result ≡ last_of iso_rule }
 {
     36_523_886
 }
 
 impl Reckoning for Iso {
-    ghost rule = { λ _. iso-rule };
+    ghost rule = { λ _. iso_rule };
 
     ghost sound = { λ c. iso_sound };
 

@@ -1,6 +1,6 @@
 ghost use Rattle.std.specs.Prelude.{◌≡◌, pos, negsuc, ◌≤ℤ◌};
 ghost use Rattle.reckoning.specs.Rules.{end as last_of};
-ghost use Rattle.solar.specs.Julian.{leap, before_year, julian as julian-rule};
+ghost use Rattle.solar.specs.Julian.{leap, before_year, julian as julian_rule};
 ghost use Rattle.solar.specs.JulianYears.{julian_sound};
 
 use crate::{civil, years};
@@ -34,13 +34,13 @@ fn days_before(year: i32) -> i32
 
 // The last day of the last year.
 fn end() -> i32
-    ensures { result ≡ last_of julian-rule }
+    ensures { result ≡ last_of julian_rule }
 {
     36_524_632
 }
 
 impl Reckoning for Julian {
-    ghost rule = { λ _. julian-rule };
+    ghost rule = { λ _. julian_rule };
 
     ghost sound = { λ c. julian_sound };
 

@@ -1,6 +1,6 @@
 ghost use Rattle.std.specs.Prelude.{◌≡◌, [], pos, ◌+ℤ◌, ◌-ℤ◌};
-ghost use Rattle.calendar.specs.Eras.{outside_era, first_year as first-year-of, raised, in_row, reckoned, lowered, from_row, unreckoned, with_eras};
-ghost use Rattle.calendar.specs.Piles.{meaning, calendar as calendar-of};
+ghost use Rattle.calendar.specs.Eras.{outside_era, first_year as first_year_of, raised, in_row, reckoned, lowered, from_row, unreckoned, with_eras};
+ghost use Rattle.calendar.specs.Piles.{meaning, calendar as calendar_of};
 ghost use Rattle.layer.specs.Sounding.{era_sound};
 ghost use Rattle.layer.specs.Tables.{used, may_add, with_row, may_amend, with_number, done_if};
 
@@ -93,7 +93,7 @@ impl<C: Calendar> Era<C> {
 
     // The year below on the row's first day.
     fn first_year(&self, row: Row) -> Result<i32, Fault>
-        ensures { result ≡ first-year-of (meaning (C.Calendar.pile self.now.below)) row }
+        ensures { result ≡ first_year_of (meaning (C.Calendar.pile self.now.below)) row }
     {
         let Ok(date) = self.below.date_on(row.first) else {
             return Err(outside());
@@ -145,7 +145,7 @@ impl<C: Calendar> Era<C> {
 }
 
 impl<C: Calendar> Calendar for Era<C> {
-    ghost pile = { λ e. calendar-of (with_eras (used e.table) (meaning (C.Calendar.pile e.below))) };
+    ghost pile = { λ e. calendar_of (with_eras (used e.table) (meaning (C.Calendar.pile e.below))) };
 
     ghost sound = { λ e. era_sound (used e.table) (C.Calendar.pile e.below) (C.Calendar.sound e.below) };
 

@@ -1,12 +1,12 @@
 use Rattle.std.proofs.Common.{◌≡◌, ℕ, ◌/◌, pos, ◌+ℤ◌, ◌-ℤ◌, nat_abs, ap, arith, w32, SFits, to_z, of_z}
 use Rattle.std.proofs.lemmas.Int.{ints, to_z-of_z}
-use Rattle.solar.specs.Gregorian.{before_year as before-gregorian}
+use Rattle.solar.specs.Gregorian.{before_year as before_gregorian}
 use Rattle.solar.specs.FrenchYears.{count_is}
 use Rattle.solar.specs.GregorianYears.{few_before}
 use Rattle.solar.proofs.french.days_before.Goals as goal
 
 -- what the two calls answer
-days_is : (c : goal.After-days_before) → c.days_before.result ≡ before-gregorian c.args.year
+days_is : (c : goal.After-days_before) → c.days_before.result ≡ before_gregorian c.args.year
 days_is c = let fy = c.ranges.year in simp to_z-of_z at c.days_before.ensures
 
 cycles_is : (c : goal.After-days_before) → (n : ℕ) × (pos n ≡ c.args.year -ℤ pos 1) × (c.divide-cycles.result.0 ≡ n / 4000)
