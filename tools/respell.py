@@ -17,8 +17,6 @@ WORD = r"[^\s(){}\[\].,;:|@«»⟦⟧`]+"
 DECLARED = re.compile(r"^\s*(?:(?:abbrev|unfoldable|pub|private|data|record)\s+)*(" + WORD + r")(?:\s*[({][^:]*:[^)}]*[)}])*\s*:\s+(.*)$")
 IMPORT = re.compile(r"^\s*(?:ghost )?use ([\w.'+-]+)\.\{([^}]*)\}")
 MADE = {"c", "l", "w", "g", "goal", "need"}
-# would be spelled as a function or a variable of src/ that stands beside it
-OTHERWISE = {n: n.replace("-", "_") + "_lem" for n in ("has-year", "last-first", "lo-adu", "molad-zaken", "year-days")}
 
 
 def texts():
@@ -29,8 +27,6 @@ def texts():
 
 
 def respelled(name):
-    if name in OTHERWISE:
-        return OTHERWISE[name]
     if name[0].isupper():
         first, *rest = name.split("-")
         return first + "".join(w[:1].upper() + w[1:] for w in rest)

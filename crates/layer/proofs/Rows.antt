@@ -8,7 +8,7 @@ use Rattle.calendar.specs.declared.rows.Row.{Row}
 use Rattle.calendar.specs.Rows.{at_place, row_of, last_with, era_on}
 use Rattle.date.specs.Days.{within}
 use Rattle.layer.specs.declared.table.Table.{Table}
-use Rattle.layer.specs.Tables.{number_fits, follows, rise, last_first_lem, used, table_fits, may_add, with_row, may_amend, renumbered, with_number}
+use Rattle.layer.specs.Tables.{number_fits, follows, rise, last_first, used, table_fits, may_add, with_row, may_amend, renumbered, with_number}
 
 -- what an array has past its end
 abbrev pub blank : Row
@@ -98,35 +98,35 @@ ends t e n inv h = let z : e ≡ 0 = omega arith in z ∙ sym (inv ∙ ap (λ k.
 
 -- ---- one more row
 
-last_at : (last : ℤ) (x : Row) (xs : List Row) → (get_or (x ∷ xs) (length xs) blank).first ≡ last_first_lem last (x ∷ xs)
+last_at : (last : ℤ) (x : Row) (xs : List Row) → (get_or (x ∷ xs) (length xs) blank).first ≡ last_first last (x ∷ xs)
 last_at last x [] = refl
 last_at last x (y ∷ ys) = last_at x.first y ys
 
-last_is : (last : ℤ) (xs : List Row) (j : ℕ) → j + 1 ≡ length xs → (get_or xs j blank).first ≡ last_first_lem last xs
+last_is : (last : ℤ) (xs : List Row) (j : ℕ) → j + 1 ≡ length xs → (get_or xs j blank).first ≡ last_first last xs
 last_is last [] j h = absurd (omega arith)
 last_is last (x ∷ xs) j h = let e : j ≡ length xs = omega arith in ap (λ i. (get_or (x ∷ xs) i blank).first) e ∙ last_at last x xs
 
-rise_more : (last : ℤ) (xs : List Row) (r : Row) → rise last xs ≡ true → follows (last_first_lem last xs) r ≡ true → rise last (xs ++ (r ∷ [])) ≡ true
+rise_more : (last : ℤ) (xs : List Row) (r : Row) → rise last xs ≡ true → follows (last_first last xs) r ≡ true → rise last (xs ++ (r ∷ [])) ≡ true
 rise_more last [] r h f = and_from _ _ f refl
 rise_more last (x ∷ xs) r h f = let p = and_parts (follows last x) _ h in and_from _ _ p.0 (rise_more x.first xs r p.1 f)
 
 module _ (t : Table) (full : length t.rows ≡ 16) (ok : table_fits t ≡ true) where
-  pub last_used : 0 < t.len → (get_or t.rows (t.len - 1) blank).first ≡ last_first_lem (pos 0) (used t)
+  pub last_used : 0 < t.len → (get_or t.rows (t.len - 1) blank).first ≡ last_first (pos 0) (used t)
   last_used h =
       let l = used_length t full ok in
       ap (λ r. r.first) (sym (get_or-take t.len t.rows (t.len - 1) blank (omega arith))) ∙ last_is (pos 0) (used t) (t.len - 1) (omega arith)
 
   module _ (r : Row) (h : t.len < 16) where
-    pub room : follows (last_first_lem (pos 0) (used t)) r ≡ true → may_add t r ≡ true
+    pub room : follows (last_first (pos 0) (used t)) r ≡ true → may_add t r ≡ true
     room f = and_from _ _ (lt-ltb _ _ h) f
 
     added_rows : take (t.len + 1) (set t.rows t.len r) ≡ used t ++ (r ∷ [])
     added_rows = rw add-one (take-suc-set t.rows t.len r (omega arith))
 
-    pub added_used : follows (last_first_lem (pos 0) (used t)) r ≡ true → take (t.len + 1) (set t.rows t.len r) ≡ with_row t r
+    pub added_used : follows (last_first (pos 0) (used t)) r ≡ true → take (t.len + 1) (set t.rows t.len r) ≡ with_row t r
     added_used f = added_rows ∙ sym (cond-true _ _ _ (room f))
 
-    pub added_fits : follows (last_first_lem (pos 0) (used t)) r ≡ true → table_fits (record { rows = set t.rows t.len r; len = t.len + 1 }) ≡ true
+    pub added_fits : follows (last_first (pos 0) (used t)) r ≡ true → table_fits (record { rows = set t.rows t.len r; len = t.len + 1 }) ≡ true
     added_fits f =
         let p = and_parts (leb t.len 16) _ ok in
         and_from _ _ (le-leb (t.len + 1) 16 (omega arith)) (ap (rise (pos 0)) added_rows ∙ rise_more (pos 0) (used t) r p.1 f)

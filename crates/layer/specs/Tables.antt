@@ -28,9 +28,9 @@ rise last [] = true
 rise last (r ∷ rs) = follows last r && rise r.first rs
 
 -- the day on which the last row begins, and `last` where there is none
-abbrev pub last_first_lem : ℤ → List Row → ℤ
-last_first_lem last [] = last
-last_first_lem last (r ∷ rs) = last_first_lem r.first rs
+abbrev pub last_first : ℤ → List Row → ℤ
+last_first last [] = last
+last_first last (r ∷ rs) = last_first r.first rs
 
 -- the rows that are filled
 abbrev pub used : Table → List Row
@@ -42,7 +42,7 @@ table_fits t = nat_le t.len most_rows && rise (pos 0) (used t)
 
 -- whether one more row may be added, and the rows then
 abbrev pub may_add : Table → Row → Bool
-may_add t r = nat_lt t.len most_rows && follows (last_first_lem (pos 0) (used t)) r
+may_add t r = nat_lt t.len most_rows && follows (last_first (pos 0) (used t)) r
 
 abbrev pub with_row : Table → Row → List Row
 with_row t r = cond (may_add t r) (used t ++ (r ∷ [])) (used t)

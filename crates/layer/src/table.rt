@@ -1,7 +1,7 @@
 ghost use Rattle.std.specs.Prelude.{◌≡◌, true, [], pos};
 ghost use Rattle.calendar.specs.Eras.{belonging};
 ghost use Rattle.calendar.specs.Rows.{row_of, era_on as era_of};
-ghost use Rattle.layer.specs.Tables.{number_fits, follows, last_first_lem, used, table_fits, may_add, with_row, may_amend, with_number, done_if};
+ghost use Rattle.layer.specs.Tables.{number_fits, follows, last_first, used, table_fits, may_add, with_row, may_amend, with_number, done_if};
 
 use calendar::calendar::Kind;
 use calendar::rows::Row;
@@ -54,7 +54,7 @@ impl Table {
     // The day on which the last row begins, and 0 where there is none.
     fn last_first(&self) -> i32
         requires { table_fits self.now ≡ true }
-        ensures { result ≡ last_first_lem (pos 0) (used self.now) }
+        ensures { result ≡ last_first (pos 0) (used self.now) }
     {
         if self.len == 0 {
             0

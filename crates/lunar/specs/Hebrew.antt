@@ -10,8 +10,8 @@ unfoldable pub new_year : ℕ → ℕ
 new_year y = molad_day y + delay (leap y) (leap (y - 1)) (weekday (molad_day y)) (molad_part y)
 
 -- the days of the year, from its new year to the next
-unfoldable pub year_days_lem : ℕ → ℕ
-year_days_lem y = new_year (y + 1) - new_year y
+unfoldable pub year_days : ℕ → ℕ
+year_days y = new_year (y + 1) - new_year y
 
 -- the day before the new year
 unfoldable pub before_year : ℤ → ℤ
@@ -23,6 +23,6 @@ hebrew = record {
   first = pos 1;
   span = 99998;
   months = λ y. 13;
-  length = λ y m. days (leap (unsigned_abs y)) (year_days_lem (unsigned_abs y)) m;
-  start = λ y m. before_year y +ℤ pos (before_month (leap (unsigned_abs y)) (year_days_lem (unsigned_abs y)) m);
+  length = λ y m. days (leap (unsigned_abs y)) (year_days (unsigned_abs y)) m;
+  start = λ y m. before_year y +ℤ pos (before_month (leap (unsigned_abs y)) (year_days (unsigned_abs y)) m);
 }

@@ -6,7 +6,7 @@ use Rattle.std.proofs.lemmas.Int.{ints}
 use Rattle.date.specs.Division.{remainder}
 use Rattle.date.proofs.Divisions.{floor_is, remainder_lt}
 use Rattle.reckoning.specs.Rules.{Sound, InYears}
-use Rattle.lunar.specs.Hebrew.{new_year, year_days_lem, before_year, hebrew}
+use Rattle.lunar.specs.Hebrew.{new_year, year_days, before_year, hebrew}
 use Rattle.lunar.specs.HebrewMonths.{complete, deficient, days, of_first, before_month}
 use Rattle.lunar.specs.HebrewYears.{Length, Regular}
 use Rattle.lunar.specs.Molad.{leap, months_before, epoch, molad, weekday}
@@ -36,11 +36,11 @@ pub month_more : (l : Bool) (n m : ℕ) → 1 ≤ m → before_month l n (m + 1)
 month_more l n zero h = absurd (omega arith)
 month_more l n (suc k) h = let e : suc k + 1 - 1 ≡ suc k = omega arith in let f : suc k - 1 ≡ k = omega arith in rw (e, f) refl
 
-year_is : (a : ℕ) → 1 ≤ a → new_year (a + 1) ≡ new_year a + year_days_lem a
-unfolding year_days_lem
+year_is : (a : ℕ) → 1 ≤ a → new_year (a + 1) ≡ new_year a + year_days a
+unfolding year_days
 year_is a h = let f = year_fits a h in omega arith
 
-turns : (a : ℕ) → 1 ≤ a → before_year (pos (a + 1)) ≡ before_year (pos a) +ℤ pos (year_days_lem a)
+turns : (a : ℕ) → 1 ≤ a → before_year (pos (a + 1)) ≡ before_year (pos a) +ℤ pos (year_days a)
 unfolding before_year
 turns a h = let e = year_is a h in omega (arith, ints)
 
@@ -53,7 +53,7 @@ week a =
     let l = remainder_lt day 7 (omega arith) in
     omega (arith, ints)
 
-pub regular : (y : ℤ) → pos 1 ≤ℤ y → Regular y (year_days_lem (unsigned_abs y))
+pub regular : (y : ℤ) → pos 1 ≤ℤ y → Regular y (year_days (unsigned_abs y))
 regular (negsuc a) h = absurd (omega (arith, ints))
 regular (pos a) h =
     let i : 1 ≤ a = omega (arith, ints) in
@@ -62,7 +62,7 @@ regular (pos a) h =
     record {
       lasts = rw (s, t) (omega (arith, ints));
       length = year_lengths a i;
-      filled = months_fill (leap a) (year_days_lem a) (year_lengths a i);
+      filled = months_fill (leap a) (year_days a) (year_lengths a i);
       begins = (let w = week a in rw w (allowed_days a));
     }
 
@@ -76,11 +76,11 @@ next y iy =
 pub hebrew_sound : Sound hebrew
 unfolding before_year new_year molad months_before
 hebrew_sound = record {
-  next_month = λ y m iy a b. more (before_year y) _ _ _ (month_more (leap (unsigned_abs y)) (year_days_lem (unsigned_abs y)) m a);
+  next_month = λ y m iy a b. more (before_year y) _ _ _ (month_more (leap (unsigned_abs y)) (year_days (unsigned_abs y)) m a);
   next_year = next;
   some_months = λ y iy. omega arith;
   few_months = λ y iy. omega arith;
-  few_days = λ y m iy im. (let f = few (leap (unsigned_abs y)) (year_days_lem (unsigned_abs y)) m in omega arith);
+  few_days = λ y m iy im. (let f = few (leap (unsigned_abs y)) (year_days (unsigned_abs y)) m in omega arith);
   first_fits = le_z_yes tt;
   last_fits = le_z_yes tt;
   start_fits = le_z_yes tt;
@@ -95,8 +95,8 @@ count_is y n d e f = back d ∙ ap (λ x. epoch +ℤ pos x -ℤ pos 1) (f ∙ ap
     back : (d : ℕ) → pos d -ℤ pos 1373428 ≡ epoch +ℤ pos d -ℤ pos 1
     back d = omega (arith, ints)
 
-pub regular_by : (y : ℤ) (n d : ℕ) → pos 1 ≤ℤ y → pos n ≡ y → d ≡ year_days_lem n → (d ≡ year_days_lem (unsigned_abs y)) × Regular y d
+pub regular_by : (y : ℤ) (n d : ℕ) → pos 1 ≤ℤ y → pos n ≡ y → d ≡ year_days n → (d ≡ year_days (unsigned_abs y)) × Regular y d
 regular_by y n d h e f =
-    let g : d ≡ year_days_lem (unsigned_abs y) = f ∙ ap (λ z. year_days_lem (unsigned_abs z)) e in
+    let g : d ≡ year_days (unsigned_abs y) = f ∙ ap (λ z. year_days (unsigned_abs z)) e in
     let P : ℕ → Type 0 = λ x. Regular y x in
     (g, subst P (sym g) (regular y h))

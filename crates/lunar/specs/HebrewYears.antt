@@ -4,7 +4,7 @@ use Rattle.date.specs.Division.{remainder}
 use Rattle.lunar.specs.Hebrew.{hebrew}
 use Rattle.lunar.specs.HebrewMonths.{of_first}
 use Rattle.lunar.specs.Molad.{leap}
-use Rattle.lunar.specs.Postponements.{lo_adu_lem}
+use Rattle.lunar.specs.Postponements.{lo_adu}
 
 -- the lengths of a leap year, and those of a common one
 abbrev pub Length : Bool → ℕ → Type 0
@@ -20,4 +20,4 @@ pub record Regular (y : ℤ) (n : ℕ) : Type 0 where
   -- the months fill the year
   pub filled : of_first (hebrew.length y) 13 ≡ n
   -- new year's day is no Sunday, no Wednesday and no Friday
-  pub begins : lo_adu_lem (remainder (hebrew.start y 1 +ℤ pos 1) 7) ≡ false
+  pub begins : lo_adu (remainder (hebrew.start y 1 +ℤ pos 1) 7) ≡ false

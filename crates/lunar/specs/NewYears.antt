@@ -3,10 +3,10 @@
 use Rattle.std.specs.Prelude.{◌≡◌, ℕ, ◌+◌, ◌-◌, ◌*◌, ◌%◌, ◌<◌, ◌≤◌, Bool, true, false, cond, not, ◌&&◌, T, ◌⊎◌, List, [], ◌∷◌, nat_le, refl}
 use Rattle.std.proofs.Common.{arith, inl, inr, ⊎_elim}
 use Rattle.std.proofs.lemmas.Bool.{cases_lt, true≢false}
-use Rattle.lunar.specs.Hebrew.{new_year, year_days_lem}
+use Rattle.lunar.specs.Hebrew.{new_year, year_days}
 use Rattle.lunar.specs.HebrewYears.{Length}
 use Rattle.lunar.specs.Molad.{leap, molad_day, molad_part, weekday}
-use Rattle.lunar.specs.Postponements.{lo_adu_lem, gatarad, betutakpat, molad_zaken_lem, by_noon, delay}
+use Rattle.lunar.specs.Postponements.{lo_adu, gatarad, betutakpat, molad_zaken, by_noon, delay}
 use Rattle.lunar.specs.Computed.{both, every, each, clear, same_side, stretches, along}
 use Rattle.lunar.specs.Moons.{apart, apart_before, whole, rest, room, carry, next_part, next_molad, week_more, molad_small}
 
@@ -103,8 +103,8 @@ year_fits y h =
         let h : z ≤ c + 2 + x = out z (c + 2 + x) s.1 in
         (omega arith, omega arith)
 
-pub year_lengths : (y : ℕ) → 1 ≤ y → Length (leap y) (year_days_lem y)
-unfolding year_days_lem
+pub year_lengths : (y : ℕ) → 1 ≤ y → Length (leap y) (year_days y)
+unfolding year_days
 year_lengths y h = let f = year_fits y h in by (leap y) f
   where
     three : (a n : ℕ) → a ≤ n → n ≤ a + 2 → (n ≡ a) ⊎ ((n ≡ a + 1) ⊎ (n ≡ a + 2))
@@ -116,7 +116,7 @@ year_lengths y h = let f = year_fits y h in by (leap y) f
 
 -- no year begins on a barred day
 abbrev lands : Bool → Bool → ℕ → ℕ → Bool
-lands l k p w = not (lo_adu_lem ((w + off l k w p) % 7))
+lands l k p w = not (lo_adu ((w + off l k w p) % 7))
 
 landing_stretch : Bool → Bool → ℕ → ℕ → Bool
 landing_stretch l k a b = undivided a b && every (lands l k a) 7
@@ -135,7 +135,7 @@ all_land true false = tt
 all_land false true = tt
 all_land false false = tt
 
-pub allowed_days : (y : ℕ) → lo_adu_lem (weekday (new_year y)) ≡ false
+pub allowed_days : (y : ℕ) → lo_adu (weekday (new_year y)) ≡ false
 allowed_days y =
     let l = leap y in
     let k = leap (y - 1) in
@@ -153,7 +153,7 @@ delays : (a b c d : Bool) → cond a 2 (cond b 1 (cond c (cond d 1 0 + 1) (cond 
 delays a b c d = grind arith
 
 pub delay_small : (l k : Bool) (w p x : ℕ) → x ≡ delay l k w p → x ≤ 2
-delay_small l k w p x e = rw e (delays (gatarad l w p) (betutakpat k w p) (lo_adu_lem ((w + by_noon p) % 7)) (molad_zaken_lem p))
+delay_small l k w p x e = rw e (delays (gatarad l w p) (betutakpat k w p) (lo_adu ((w + by_noon p) % 7)) (molad_zaken p))
 
 pub new_year_small : (y d : ℕ) → 1 ≤ y → y ≤ 100000 → d ≡ new_year y → d ≤ 36600002
 unfolding off
@@ -168,8 +168,8 @@ pub new_year_from : (y d p w x : ℕ) (l k : Bool) → d ≡ molad_day y → p �
 unfolding new_year
 new_year_from y d p w x l k a b c e f g = rw (g, c, a, b, e, f) refl
 
-pub counted : (y a b : ℕ) → 1 ≤ y → a ≡ new_year (y + 1) → b ≡ new_year y → (b ≤ a) × (a - b ≤ 385) × (a - b ≡ year_days_lem y)
-unfolding year_days_lem
+pub counted : (y a b : ℕ) → 1 ≤ y → a ≡ new_year (y + 1) → b ≡ new_year y → (b ≤ a) × (a - b ≤ 385) × (a - b ≡ year_days y)
+unfolding year_days
 counted y a b h e f = by (leap y) (year_fits y h)
   where
     by : (l : Bool) → (least l + new_year y ≤ new_year (y + 1)) × (new_year (y + 1) ≤ least l + 2 + new_year y) → (b ≤ a) × (a - b ≤ 385) × (a - b ≡ new_year (y + 1) - new_year y)

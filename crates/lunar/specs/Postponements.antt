@@ -3,12 +3,12 @@ use Rattle.std.specs.Prelude.{ℕ, ◌+◌, ◌%◌, Bool, cond, not, ◌&&◌, 
 use Rattle.lunar.specs.Weekdays.{sunday, monday, tuesday, wednesday, friday}
 
 -- (i) Molad zaken: the molad falls at noon or later, 18 hours or more into its day. The year begins a day later.
-abbrev pub molad_zaken_lem : ℕ → Bool
-molad_zaken_lem p = nat_le 19440 p
+abbrev pub molad_zaken : ℕ → Bool
+molad_zaken p = nat_le 19440 p
 
 -- (ii) Lo ADU: the day reached is a Sunday, a Wednesday or a Friday. The year begins a day later again.
-abbrev pub lo_adu_lem : ℕ → Bool
-lo_adu_lem w = w == sunday || (w == wednesday || w == friday)
+abbrev pub lo_adu : ℕ → Bool
+lo_adu w = w == sunday || (w == wednesday || w == friday)
 
 -- (iii) GaTaRaD: the year is common, and its molad falls on a Tuesday, 9 hours and 204 parts or more into it. The year
 -- begins on that Thursday.
@@ -22,10 +22,10 @@ betutakpat after-leap w p = after-leap && (w == monday && nat_le 16789 p)
 
 -- the days by (i), and with one more by (ii)
 abbrev pub by_noon : ℕ → ℕ
-by_noon p = cond (molad_zaken_lem p) 1 0
+by_noon p = cond (molad_zaken p) 1 0
 
 abbrev pub by_weekday : ℕ → ℕ → ℕ
-by_weekday w days = cond (lo_adu_lem ((w + days) % 7)) (days + 1) days
+by_weekday w days = cond (lo_adu ((w + days) % 7)) (days + 1) days
 
 -- the days from the molad's to the new year: to the Thursday by (iii), to the Tuesday by (iv), else by (i) and (ii)
 abbrev pub delay : Bool → Bool → ℕ → ℕ → ℕ

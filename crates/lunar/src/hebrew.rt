@@ -1,5 +1,5 @@
 ghost use Rattle.std.specs.Prelude.{◌≡◌, ◌≤◌, pos, ◌≤ℤ◌, unsigned_abs};
-ghost use Rattle.lunar.specs.Hebrew.{year_days_lem, before_year, hebrew as hebrew_rule};
+ghost use Rattle.lunar.specs.Hebrew.{year_days, before_year, hebrew as hebrew_rule};
 ghost use Rattle.lunar.specs.HebrewMonths.{days, before_month};
 ghost use Rattle.lunar.specs.HebrewYears.{Regular};
 ghost use Rattle.lunar.specs.Molad.{leap as leap_in};
@@ -32,7 +32,7 @@ fn days_before(year: i32) -> i32
 // The days from the year's first to the next year's.
 fn days_of_year(year: i32) -> u16
     requires { (pos 1 ≤ℤ year) × (year ≤ℤ pos 99999) }
-    ensures days { result ≡ year_days_lem (unsigned_abs year) }
+    ensures days { result ≡ year_days (unsigned_abs year) }
     ensures regular { Regular year result }
 {
     let year = year as u64;
@@ -84,14 +84,14 @@ fn days_before_month(leap: bool, year_days: u16, month: u8) -> u16
 // The days of a month of the year, and those of the year before it.
 fn length_in(year: i32, month: u8) -> u8
     requires { (pos 1 ≤ℤ year) × (year ≤ℤ pos 99999) }
-    ensures { result ≡ days (leap_in (unsigned_abs year)) (year_days_lem (unsigned_abs year)) month }
+    ensures { result ≡ days (leap_in (unsigned_abs year)) (year_days (unsigned_abs year)) month }
 {
     days_in(is_leap(year as u64), days_of_year(year), month)
 }
 
 fn elapsed_in(year: i32, month: u8) -> u16
     requires { (pos 1 ≤ℤ year) × ((year ≤ℤ pos 99999) × ((1 ≤ month) × (month ≤ 13))) }
-    ensures { result ≡ before_month (leap_in (unsigned_abs year)) (year_days_lem (unsigned_abs year)) month }
+    ensures { result ≡ before_month (leap_in (unsigned_abs year)) (year_days (unsigned_abs year)) month }
 {
     days_before_month(is_leap(year as u64), days_of_year(year), month)
 }

@@ -1,7 +1,7 @@
 ghost use Rattle.std.specs.Prelude.{◌≡◌, ◌<◌, ◌≤◌};
 ghost use Rattle.lunar.specs.Hebrew.{new_year};
 ghost use Rattle.lunar.specs.Molad.{leap as leap_in, molad_day, molad_part};
-ghost use Rattle.lunar.specs.Postponements.{molad_zaken_lem, lo_adu_lem, gatarad, betutakpat, by_weekday, delay};
+ghost use Rattle.lunar.specs.Postponements.{molad_zaken, lo_adu, gatarad, betutakpat, by_weekday, delay};
 
 use date::division::divide;
 
@@ -39,14 +39,14 @@ fn molad(year: u64) -> (u64, u64)
 
 // The four postponements by their names: a molad at noon or later.
 fn molad_zaken(part: u64) -> bool
-    ensures { result ≡ molad_zaken_lem part }
+    ensures { result ≡ molad_zaken part }
 {
     part >= 19_440
 }
 
 // A weekday on which no year begins.
 fn lo_adu(weekday: u64) -> bool
-    ensures { result ≡ lo_adu_lem weekday }
+    ensures { result ≡ lo_adu weekday }
 {
     weekday == SUNDAY || weekday == WEDNESDAY || weekday == FRIDAY
 }

@@ -16,7 +16,7 @@ use Rattle.date.proofs.Keys.{key, date_ranged, keyed, from_before, same_date}
 use Rattle.date.proofs.Making.{made, dated_is, date_of}
 use Rattle.reckoning.specs.Faith.{Faithful}
 use Rattle.reckoning.specs.Held.{HoldsYear, HoldsMonth}
-use Rattle.reckoning.specs.Reckoned.{Names, reckoned, on, of, misdated, counted, has_year_lem, month_days, dated_in, dated_on, year_on, month_on}
+use Rattle.reckoning.specs.Reckoned.{Names, reckoned, on, of, misdated, counted, has_year, month_days, dated_in, dated_on, year_on, month_on}
 use Rattle.reckoning.specs.Rules.{Rule, Sound, InYears, InMonths, last_year, end}
 use Rattle.reckoning.specs.Orders.{is_lt, is_le, lt_is, le_is}
 use Rattle.reckoning.specs.Theory.{Valid, day_at, Before, day_in, later, compare, unique, year_found, month_found, there}
@@ -47,7 +47,7 @@ pub checked : (r : Rule) (d : Date) → misdated r d ≡ 0 → Checked r d
 checked r d h =
     let f = date_ranged d in
     let a = passed (d.era == 0) _ _ h in
-    let b = passed (has_year_lem r d.year) _ _ a.1 in
+    let b = passed (has_year r d.year) _ _ a.1 in
     let c = passed (d.mark == 0) _ _ b.1 in
     let e = failed (month_days r d.year d.month == 0) _ _ c.1 in
     let g = passed (nat_le d.day (month_days r d.year d.month)) _ _ e.1 in

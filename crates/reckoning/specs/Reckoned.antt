@@ -21,8 +21,8 @@ pub record Names (r : Rule) (d : Date) (n : ℤ) : Type 0 where
 
 -- ---- the day of a date
 
-abbrev pub has_year_lem : Rule → ℤ → Bool
-has_year_lem r y = int_le r.first y && int_le y (last_year r)
+abbrev pub has_year : Rule → ℤ → Bool
+has_year r y = int_le r.first y && int_le y (last_year r)
 
 -- the days of a month of the year, and none of a month that the year does not have
 abbrev pub month_days : Rule → ℤ → ℕ → ℕ
@@ -32,7 +32,7 @@ month_days r y m = cond (nat_le m (r.months y)) (r.length y m) 0
 -- none of the year's
 abbrev pub misdated : Rule → Date → ℕ
 misdated r d =
-    cond (d.era == 0) (cond (has_year_lem r d.year) (cond (d.mark == 0) (cond (month_days r d.year d.month == 0) 4 (cond (nat_le d.day (month_days r d.year d.month)) 0 5)) 3) 2) 1
+    cond (d.era == 0) (cond (has_year r d.year) (cond (d.mark == 0) (cond (month_days r d.year d.month == 0) 4 (cond (nat_le d.day (month_days r d.year d.month)) 0 5)) 3) 2) 1
 
 -- the day that a date counts to, if it is in the range
 abbrev pub counted : Rule → ℤ → Result ℤ Fault

@@ -3,7 +3,7 @@ ghost use Rattle.calendar.specs.Piles.{calendar as calendar_of};
 ghost use Rattle.date.specs.Days.{within};
 ghost use Rattle.reckoning.specs.Faith.{Faithful};
 ghost use Rattle.reckoning.specs.Held.{HoldsYear, HoldsMonth};
-ghost use Rattle.reckoning.specs.Reckoned.{reckoned as reckoned_by, misdated as misdated_by, has_year_lem, month_days, dated_on, on, of};
+ghost use Rattle.reckoning.specs.Reckoned.{reckoned as reckoned_by, misdated as misdated_by, has_year, month_days, dated_on, on, of};
 ghost use Rattle.reckoning.specs.Rules.{end as last_of};
 ghost use Rattle.reckoning.specs.Faiths.{rule_lawful};
 
@@ -84,14 +84,14 @@ fn find<R: Reckoning>(r: &R, day: i32) -> Result<Date, Fault>
 }
 
 fn has_year<R: Reckoning>(r: &R, year: i32) -> bool
-    ensures { result ≡ has_year_lem (R.rule r.now) year }
+    ensures { result ≡ has_year (R.rule r.now) year }
 {
     r.first() <= year && year <= r.last()
 }
 
 // The days of a month of the year, and none of a month that the year does not have.
 fn days_in<R: Reckoning>(r: &R, year: i32, month: u8) -> u8
-    requires { (has_year_lem (R.rule r.now) year ≡ true) × (1 ≤ month) }
+    requires { (has_year (R.rule r.now) year ≡ true) × (1 ≤ month) }
     ensures { result ≡ month_days (R.rule r.now) year month }
 {
     if month <= r.months(year) {
