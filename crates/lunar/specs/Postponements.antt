@@ -18,7 +18,7 @@ gatarad leap w p = not leap && (w == tuesday && nat_le 9924 p)
 -- (iv) BeTUTaKPaT: the year before is leap, and the molad falls on a Monday, 15 hours and 589 parts or more into it. The
 -- year begins on that Tuesday.
 abbrev pub betutakpat : Bool → ℕ → ℕ → Bool
-betutakpat after-leap w p = after-leap && (w == monday && nat_le 16789 p)
+betutakpat after_leap w p = after_leap && (w == monday && nat_le 16789 p)
 
 -- the days by (i), and with one more by (ii)
 abbrev pub by_noon : ℕ → ℕ
@@ -29,4 +29,4 @@ by_weekday w days = cond (lo_adu ((w + days) % 7)) (days + 1) days
 
 -- the days from the molad's to the new year: to the Thursday by (iii), to the Tuesday by (iv), else by (i) and (ii)
 abbrev pub delay : Bool → Bool → ℕ → ℕ → ℕ
-delay leap after-leap w p = cond (gatarad leap w p) 2 (cond (betutakpat after-leap w p) 1 (by_weekday w (by_noon p)))
+delay leap after_leap w p = cond (gatarad leap w p) 2 (cond (betutakpat after_leap w p) 1 (by_weekday w (by_noon p)))
