@@ -17,6 +17,8 @@ WORD = r"[^\s(){}\[\].,;:|@«»⟦⟧`]+"
 DECLARED = re.compile(r"^\s*(?:(?:abbrev|unfoldable|pub|private|data|record)\s+)*(" + WORD + r")(?:\s*[({][^:]*:[^)}]*[)}])*\s*:\s+(.*)$")
 IMPORT = re.compile(r"^\s*(?:ghost )?use ([\w.'+-]+)\.\{([^}]*)\}")
 MADE = {"c", "l", "w", "g", "goal", "need"}
+# variables of definitions
+VARIABLES = {"after-leap"}
 
 
 def texts():
@@ -55,6 +57,7 @@ def own_names(paths):
             else:
                 own.setdefault(m.group(1), []).append(path)
     names = {n: respelled(n) for n in own if n not in library and re.search(r"[^\W\d_]-\w", n)}
+    names |= {n: respelled(n) for n in VARIABLES}
     return names, library, goals, own
 
 
@@ -95,7 +98,7 @@ def main():
     names, library, goals, own = own_names(paths)
     if "--list" in sys.argv:
         for n in sorted(names):
-            print(n, "->", names[n], " ".join(sorted(set(own[n]))))
+            print(n, "->", names[n], " ".join(sorted(set(own.get(n, [])))))
         words = {}
         for path in paths:
             with open(path, encoding="utf-8") as f:
