@@ -1,7 +1,6 @@
 pub mod Meaning
 pub mod Piles
 pub mod Parties
-pub mod Carrying
 pub mod Reforms
 pub mod Styles
 pub mod Rows

@@ -1,6 +1,5 @@
 #![tactic(auto)]
-// What a calendar is: what it means, the law that it keeps, and dates carried from one to another.
+// What a calendar is: what it means, and the law that it keeps.
 pub mod calendar;
-pub mod carrying;
 pub mod refusing;
 pub mod rows;

@@ -30,8 +30,5 @@ impl Party {
 pub fn by_party<X>(party: Party, answer: Result<X, Fault>) -> Result<X, Refused>
     ensures { result ≡ told_by party answer }
 {
-    match answer {
-        Ok(x) => Ok(x),
-        Err(fault) => Err(Refused { fault, party }),
-    }
+    answer.map_err(|fault| Refused { fault, party })
 }

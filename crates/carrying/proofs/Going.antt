@@ -1,12 +1,12 @@
 -- What becomes of a date that is carried from one pile to another; and with it, the law of piles.
-use Rattle.std.proofs.Common.{◌≡◌, ℕ, ◌⊎◌, ◌↔◌, ℤ, Ok, Err, Result, sym, ap, ◌∙◌, inl, inr, ⊎_elim, arith}
+use Rattle.std.proofs.Common.{◌≡◌, ◌⊎◌, ◌↔◌, ℤ, Ok, Err, Result, sym, ap, ◌∙◌, inl, inr, ⊎_elim}
 use Rattle.calendar.specs.declared.refusing.Party.TheVariants.{First, Second}
 use Rattle.calendar.specs.declared.refusing.Refused.{Refused}
 use Rattle.carrying.specs.Carries.{Carries}
-use Rattle.calendar.specs.Parties.{told_by, number_of}
+use Rattle.calendar.specs.Parties.{told_by}
 use Rattle.carrying.specs.Piles.{Pile, meaning, Sound}
 use Rattle.calendar.proofs.Laws.{ok_not_err, told_ok}
-use Rattle.calendar.specs.Carrying.{carried}
+use Rattle.carrying.specs.Carrying.{carried}
 use Rattle.carrying.specs.Law.{TheLawOfPiles}
 use Rattle.carrying.specs.Travelling.{NoDay, NoDateThere, Travels}
 use Rattle.carrying.proofs.Piling.{answers}
@@ -16,7 +16,7 @@ use Rattle.date.specs.declared.faults.Fault.{Fault}
 use Rattle.date.specs.Refusals.{then}
 
 first_not_second : {G : Type 0} → First ≡ Second → G
-first_not_second h = let z : ◌≡◌ {A = ℕ} 1 2 = ap number_of h in absurd (omega arith)
+first_not_second h = cc
 
 same_party : (f g : Refused) → ◌≡◌ {A = Result Date Refused} (Err f) (Err g) → f.party ≡ g.party
 same_party f g h = cc

@@ -3,10 +3,11 @@ use Rattle.std.proofs.Common.{◌≡◌, ℕ, zero, suc, ◌<◌, ◌≤◌, Boo
 use lib.Signed.{le_z}
 use Rattle.std.proofs.lemmas.Int.{ints}
 use Rattle.std.proofs.lemmas.Bool.{cond-true, cond-false, cases_order}
+use Rattle.std.proofs.lemmas.Option.{none-some, same_Some}
 use Rattle.calendar.specs.declared.rows.Row.{Row}
 use Rattle.carrying.specs.Carries.{LastBegun, NoneBegun}
 use Rattle.calendar.specs.Rows.{at_place, row_of, last_with, era_on}
-use Rattle.carrying.specs.Results.{by_bool, same_some, none_not_some}
+use Rattle.carrying.specs.Results.{by_bool}
 
 -- no row from a place on began by the day n
 abbrev NoneFrom : List Row → ℕ → ℤ → Type 0
@@ -24,7 +25,7 @@ none_behind x xs i n f zero s l h = absurd (not-suc-le-zero l)
 none_behind x xs i n f (suc j) s l h = f j s (le_of_suc-le-suc l) h
 
 none_with : (x : Row) (xs : List Row) (n : ℤ) → NoneFrom xs 0 n → n <ℤ x.first → NoneFrom (x ∷ xs) 0 n
-none_with x xs n f b zero s l h = let e = ap (λ r. r.first) (same_some x s h) in omega (arith, ints)
+none_with x xs n f b zero s l h = let e = ap (λ r. r.first) (same_Some x s h) in omega (arith, ints)
 none_with x xs n f b (suc j) s l h = f j s (omega arith) h
 
 abbrev LookedUp : List Row → ℤ → Type 0
@@ -40,17 +41,17 @@ one_more x xs n (inr p) =
     inr (suc p.0, p.1, record { found = ap (last_with (le_z x.first n)) l.found; row = l.row; began = l.began; last = none_behind x xs (suc p.0) n l.last })
 
 looked_up : (rows : List Row) (n : ℤ) → LookedUp rows n
-looked_up [] n = inl (refl, λ j s l h. none_not_some s h)
+looked_up [] n = inl (refl, λ j s l h. absurd (none-some s h))
 looked_up (x ∷ xs) n = one_more x xs n (looked_up xs n)
 
 -- ---- by the number of the row
 
 none_begun : (rows : List Row) (n : ℤ) → NoneFrom rows 0 n → NoneBegun rows n
-none_begun rows n f zero s h = none_not_some s h
+none_begun rows n f zero s h = absurd (none-some s h)
 none_begun rows n f (suc j) s h = f j s (omega arith) h
 
 none_after : (rows : List Row) (i : ℕ) (n : ℤ) → NoneFrom rows (suc i) n → (j : ℕ) (s : Row) → suc i < j → row_of rows j ≡ Some s → n <ℤ s.first
-none_after rows i n f zero s l h = none_not_some s h
+none_after rows i n f zero s l h = absurd (none-some s h)
 none_after rows i n f (suc j) s l h = f j s (omega arith) h
 
 -- no row began and the era is 0, or the era is that of the last row that began
@@ -80,7 +81,7 @@ era_last rows n i r l =
 
 -- the row of an era has a number from 1
 pub last_some : (rows : List Row) (n : ℤ) (i : ℕ) (r : Row) → LastBegun rows n i r → 0 < i
-last_some rows n zero r l = none_not_some r l.row
+last_some rows n zero r l = absurd (none-some r l.row)
 last_some rows n (suc i) r l = omega arith
 
 -- later days have no earlier era

@@ -2,6 +2,7 @@
 use Rattle.std.proofs.Common.{◌≡◌, ℕ, suc, ◌+◌, ◌*◌, ◌<◌, Bool, true, eqb, ◌↔◌, List, ℤ, pos, ◌+ℤ◌, ◌-ℤ◌, ◌<ℤ◌, Ok, Err, Result, sym, refl, ap, ◌∙◌, subst, inl, inr, ⊎_elim, arith}
 use Rattle.std.proofs.lemmas.Int.{ints}
 use Rattle.std.proofs.lemmas.Bool.{eqb-true, eqb-false, eq-eqb, ne_eqb, lt-ltb, cond-true, cond-false, cases_order}
+use Rattle.std.proofs.lemmas.Option.{same_Some}
 use Rattle.calendar.specs.declared.rows.Row.{Row}
 use Rattle.carrying.specs.Carries.{LastBegun, Counted, ByEra}
 use Rattle.calendar.specs.Eras.{bare_year, first_year, raised, in_row, reckoned, lowered, from_row, unreckoned, belonging, with_eras}
@@ -10,7 +11,7 @@ use Rattle.calendar.specs.Rows.{row_of, era_on}
 use Rattle.calendar.proofs.Laws.{ok_not_err, dated_within}
 use Rattle.carrying.specs.Begun.{begun, era_none, era_last, last_some, era_grows}
 use Rattle.carrying.specs.Days.{sooner}
-use Rattle.carrying.specs.Results.{by_bool, same_ok, same_some, from_handed, from_replaced, by_true, then_so, to_then}
+use Rattle.carrying.specs.Results.{by_bool, same_ok, from_handed, from_replaced, by_true, then_so, to_then}
 use Rattle.date.specs.declared.dates.Date.{Date}
 use Rattle.date.specs.declared.faults.Fault.{Fault}
 use Rattle.date.specs.Days.{within}
@@ -175,13 +176,10 @@ module _ (rows : List Row) (m : Meaning) (law : Lawful m) where
   alike n k d e l g (inr p) (inl q) = let s = last_some rows n p.1 p.2 p.5 in let x = p.7.era in let y = q.2 in absurd (omega arith)
   alike n k d e l g (inr p) (inr q) =
       let i : p.1 ≡ q.1 = sym p.7.era ∙ (g ∙ q.7.era) in
-      let r : p.2 ≡ q.2 = same_some p.2 q.2 (sym p.5.row ∙ (ap (row_of rows) i ∙ q.5.row)) in
+      let r : p.2 ≡ q.2 = same_Some p.2 q.2 (sym p.5.row ∙ (ap (row_of rows) i ∙ q.5.row)) in
       let o : p.3 ≡ q.3 = same_ok p.3 q.3 (sym p.6 ∙ (ap (λ t. m.on t.first) r ∙ q.6)) in
-      let x : Counted q.1 q.2 q.3 p.0 d = moved p.1 q.1 p.2 q.2 p.3 q.3 p.0 d i r o p.7 in
+      let x : Counted q.1 q.2 q.3 p.0 d = rw (← i, ← r, ← o) p.7 in
       counted_key q.1 q.2 q.3 p.0 q.0 d e x q.7 (sooner m law n k p.0 q.0 p.4 q.4 l)
-    where
-      moved : (i j : ℕ) (r s : Row) (o u b d : Date) → i ≡ j → r ≡ s → o ≡ u → Counted i r o b d → Counted j s u b d
-      moved i j r s o u b d p q t x = subst (λ (w : Date). Counted j s w b d) t (subst (λ (w : Row). Counted j w o b d) q (subst (λ (w : ℕ). Counted w r o b d) p x))
 
   rises : (n k : ℤ) (d e : Date) → n <ℤ k → On n d → On k e → earlier d e ≡ true
   rises n k d e l o p =

@@ -1,6 +1,7 @@
 pub mod Piles
 pub mod Carries
 pub mod Answering
+pub mod Carrying
 pub mod Travelling
 pub mod Law
 pub mod Results

@@ -25,12 +25,6 @@ meeting_so c (Ok a) (Err y) s h = ok_not_err _ s _ h refl
 meeting_so c (Err x) (Ok b) s h = ok_not_err _ s _ h refl
 meeting_so c (Err x) (Err y) s h = ok_not_err _ s _ h refl
 
-less_so : (n c : ℤ) → lt_z n c ≡ true → n <ℤ c
-less_so n c h = omega (arith, ints)
-
-not_less_so : (n c : ℤ) → lt_z n c ≡ false → c ≤ℤ n
-not_less_so n c h = omega (arith, ints)
-
 to_less : (n c : ℤ) → n <ℤ c → lt_z n c ≡ true
 to_less n c h = grind (arith, ints)
 
@@ -52,11 +46,11 @@ module _ (old new : Meaning) (c : ℤ) (was : Lawful old) (is : Lawful new) wher
   on_so n d h =
       let w = (by_true (within n) _ _ d h).1 in
       by_bool (lt_z n c)
-      (λ t. inl (less_so n c t, from_handed (old.on n) d (sym (cond-true _ _ _ t) ∙ w)))
+      (λ t. inl (omega (arith, ints), from_handed (old.on n) d (sym (cond-true _ _ _ t) ∙ w)))
       (λ t.
       let q = then_so (seam old new c) (λ s. handed (new.on n)) d (sym (cond-false _ _ _ t) ∙ w) in
       let s = seam_so q.0 q.1 in
-      inr (not_less_so n c t, (q.0.0, q.0.1, s.0, s.1, s.2), from_handed (new.on n) d q.2))
+      inr (omega (arith, ints), (q.0.0, q.0.1, s.0, s.1, s.2), from_handed (new.on n) d q.2))
 
   to_on : (n : ℤ) (d : Date) → On n d → (reformed old new c).on n ≡ Ok d
   to_on n d (inl b) = cond-true _ _ _ (dated_within old was n d b.1) ∙ (cond-true _ _ _ (to_less n c b.0) ∙ ap handed b.1)
@@ -83,7 +77,6 @@ module _ (old new : Meaning) (c : ℤ) (was : Lawful old) (is : Lawful new) wher
       let w = then_so (handed (old.of d)) (before_cut c) n h in
       let t = by_true (lt_z w.0 c) _ _ n w.2 in
       let k = same_ok w.0 n t.1 in
-      let l = less_so w.0 c t.0 in
       inl (omega (arith, ints), (was.exact n d).1 (from_handed (old.of d) w.0 w.1 ∙ ap Ok k))
 
   to_of : (n : ℤ) (d : Date) (z : Result (Date × Date) Fault) → seam old new c ≡ z → On n d → placed old new c d z ≡ Ok n

@@ -1,5 +1,5 @@
 -- Answers taken apart, and put together.
-use Rattle.std.proofs.Common.{◌≡◌, ℕ, Bool, true, false, cond, ◌⊎◌, Some, None, Ok, Err, Option, Result, refl, ap, ◌∙◌, inl, inr, ⊎_elim, arith}
+use Rattle.std.proofs.Common.{◌≡◌, Bool, true, false, cond, ◌⊎◌, Ok, Err, Result, refl, ap, ◌∙◌, inl, inr, ⊎_elim}
 use Rattle.std.proofs.lemmas.Bool.{cases_Bool}
 use Rattle.calendar.proofs.Laws.{ok_not_err}
 use Rattle.date.specs.declared.faults.Fault.{Fault}
@@ -10,12 +10,6 @@ by_bool b f g = ⊎_elim f g (cases_Bool b)
 
 pub same_ok : {X E : Type 0} (x y : X) → ◌≡◌ {A = Result X E} (Ok x) (Ok y) → x ≡ y
 same_ok x y h = cc
-
-pub same_some : {X : Type 0} (x y : X) → ◌≡◌ {A = Option X} (Some x) (Some y) → x ≡ y
-same_some x y h = cc
-
-pub none_not_some : {X G : Type 0} (x : X) → ◌≡◌ {A = Option X} None (Some x) → G
-none_not_some x h = let z : ◌≡◌ {A = ℕ} 0 1 = cc in absurd (omega arith)
 
 -- an answer is a value or a refusal
 pub cases_result : {X E : Type 0} (r : Result X E) → ((x : X) × (r ≡ Ok x)) ⊎ ((f : E) × (r ≡ Err f))

@@ -4,7 +4,7 @@ use Rattle.calendar.specs.declared.refusing.Party.TheVariants.{First, Second}
 use Rattle.calendar.specs.declared.refusing.Refused.{Refused}
 use Rattle.carrying.specs.Carries.{Carries}
 use Rattle.carrying.specs.Piles.{Pile, meaning}
-use Rattle.calendar.specs.Carrying.{carried}
+use Rattle.carrying.specs.Carrying.{carried}
 use Rattle.date.specs.declared.dates.Date.{Date}
 
 -- no day carries the date in the pile

@@ -1,14 +1,14 @@
 -- The letters' calendars keep the law, and carry a date on every day of the range.
 use Rattle.std.proofs.Common.{◌≡◌, true, ℤ, pos, ◌≤ℤ◌, Ok, arith}
-use lib.Signed.{le_z, le_z_yes}
+use lib.Signed.{le_z_yes}
 use Rattle.std.proofs.lemmas.Int.{ints}
-use Rattle.std.proofs.lemmas.Bool.{and_parts}
+use Rattle.date.proofs.Keys.{day_between}
 use Rattle.date.specs.declared.dates.Date.{Date}
-use Rattle.date.specs.Days.{within, first_day, last_day}
+use Rattle.date.specs.Days.{within, last_day}
+use Rattle.calendar.proofs.Laws.{lawful}
 use Rattle.calendar.specs.Meaning.{Lawful}
 use Rattle.calendar.specs.Piles.{meaning}
-use Rattle.reckoning.specs.Faiths.{rule_lawful, faithful}
-use Rattle.reckoning.specs.Orders.{le_is}
+use Rattle.reckoning.specs.Faiths.{faithful}
 use Rattle.reckoning.specs.Reckoned.{reckoned}
 use Rattle.reckoning.specs.Rules.{Rule, Sound, end}
 use Rattle.solar.specs.GregorianYears.{gregorian_sound}
@@ -17,18 +17,15 @@ use Rattle.solar.specs.Gregorian as g
 use Rattle.solar.specs.Julian as j
 use Rattle.concord.specs.declared.letters.Letter.{Letter}
 use Rattle.concord.specs.declared.letters.Letter.TheVariants.{G, J}
-use Rattle.concord.specs.Calendars.{pile_of, date_under}
+use Rattle.concord.specs.Calendars.{pile_of, sound, date_under}
 
-pub lawful : (x : Letter) → Lawful (meaning (pile_of x))
-lawful G = rule_lawful g.gregorian gregorian_sound
-lawful J = rule_lawful j.julian julian_sound
+pub law_of : (x : Letter) → Lawful (meaning (pile_of x))
+law_of x = lawful (pile_of x) (sound x)
 
 -- a rule whose years begin by day 1 and go past the range dates every day of it
 some_date : (r : Rule) → Sound r → r.start r.first 1 ≤ℤ pos 0 → last_day ≤ℤ end r → (n : ℤ) → within n ≡ true → (d : Date) × ((reckoned r).on n ≡ Ok d)
 some_date r s from to n w =
-    let p = and_parts (le_z first_day n) (le_z n last_day) w in
-    let low : first_day ≤ℤ n = le_is first_day n p.0 in
-    let high : n ≤ℤ last_day = le_is n last_day p.1 in
+    let inside = day_between n w in
     let f = faithful r s in
     let one = f.one_date n (omega (arith, ints)) (omega (arith, ints)) in
     (one.0, (f.on_exact n one.0).1 (w, one.1))

@@ -2,38 +2,35 @@
 use Rattle.std.proofs.Common.{◌≡◌, ℕ, ◌<◌, ◌≤◌, true, false, cond, eqb, List, [], ◌∷◌, ◌++◌, map, Some, None, Ok, Err, Option, Result, sym, refl, ap, ◌∙◌, arith}
 use Rattle.std.proofs.lemmas.Bool.{cond-false, ne_eqb}
 use Rattle.date.specs.declared.faults.Fault.{Fault}
+use Rattle.date.specs.Refusals.{then}
 use Rattle.concord.specs.declared.lines.Lines.{Lines}
 use Rattle.concord.specs.declared.reader.Line.{Line}
+use Rattle.concord.specs.declared.reader.Reader.{Reader}
 use Rattle.concord.specs.Inputs.{last_line, lines_after, all_taken, read_alone, noted, read_on, EachAlone}
-use Rattle.concord.specs.Lines.{fresh, finished, stepped, taken, taken_by, rest, rest_by}
+use Rattle.concord.specs.Lines.{fresh, placed, finished, stepped, taken, rest, rest_by}
 use Rattle.concord.specs.Reading.{next}
-use Rattle.concord.specs.Ways.{Next}
 
 -- some byte of the line was read
 abbrev Begun : Lines → Type 0
-Begun t = (1 ≤ t.place) × (t.refused ≡ None → 1 < t.place)
+Begun t = (1 ≤ t.place) × ((r : Reader) → t.reading ≡ Ok r → 1 < t.place)
 
-stepped_begun : (n : Next) (t : Lines) → 1 ≤ t.place → Begun (stepped n t)
-stepped_begun (Ok r) t h = (omega arith, λ e. omega arith)
-stepped_begun (Err c) t h = (h, λ e. let z : ◌≡◌ {A = ℕ} 0 1 = cc in absurd (omega arith))
-
-taken_begun_by : (o : Option Fault) (t : Lines) (b : ℕ) → t.refused ≡ o → 1 ≤ t.place → Begun (taken_by o t b)
-taken_begun_by (Some f) t b e h = (h, λ n. let z : ◌≡◌ {A = ℕ} 0 1 = cc in absurd (omega arith))
-taken_begun_by None t b e h = stepped_begun (next t.reader b) t h
+stepped_begun : (n : Result Reader Fault) (t : Lines) → 1 ≤ t.place → Begun (stepped n t)
+stepped_begun (Ok r) t h = (omega arith, λ q e. omega arith)
+stepped_begun (Err f) t h = (h, λ q e. absurd (cc))
 
 taken_begun : (t : Lines) (b : ℕ) → 1 ≤ t.place → Begun (taken t b)
-taken_begun t b h = taken_begun_by t.refused t b refl h
+taken_begun t b h = stepped_begun (then t.reading (λ r. placed t.place (next r b))) t h
 
 all_begun : (bs : List ℕ) (t : Lines) → Begun t → Begun (all_taken t bs)
 all_begun [] t h = h
 all_begun (b ∷ bs) t h = all_begun bs (taken t b) (taken_begun t b h.0)
 
-rest_begun_by : (o : Option Fault) (t : Lines) → t.refused ≡ o → Begun t → rest_by o t ≡ Some (finished t)
-rest_begun_by (Some f) t e h = refl
-rest_begun_by None t e h = let l : 1 < t.place = h.1 e in cond-false _ _ _ (ne_eqb t.place 1 (λ z. omega arith))
+rest_begun_by : (n : Result Reader Fault) (t : Lines) → t.reading ≡ n → Begun t → rest_by n t ≡ Some (finished t)
+rest_begun_by (Ok r) t e h = let l : 1 < t.place = h.1 r e in cond-false _ _ _ (ne_eqb t.place 1 (λ z. omega arith))
+rest_begun_by (Err f) t e h = refl
 
 rest_begun : (t : Lines) → Begun t → rest t ≡ Some (finished t)
-rest_begun t h = rest_begun_by t.refused t refl h
+rest_begun t h = rest_begun_by t.reading t refl h
 
 all_taken_push : (xs : List ℕ) (t : Lines) (b : ℕ) → all_taken t (xs ++ b ∷ []) ≡ taken (all_taken t xs) b
 all_taken_push [] t b = refl

@@ -1,34 +1,16 @@
--- The bytes of lines and answers.
+-- The bytes of lines.
 use Rattle.std.specs.Prelude.{ℕ, ◌-◌, Bool, ◌&&◌, nat_le}
+use Rattle.date.specs.Bytes.{one}
 
 abbrev pub line_feed : ℕ
 line_feed = 10
 
-abbrev pub space : ℕ
-space = 32
-
--- `!`, which begins a refusal
-abbrev pub bang : ℕ
-bang = 33
-
-abbrev pub hyphen : ℕ
-hyphen = 45
-
-abbrev pub slash : ℕ
-slash = 47
-
--- the digits 0, 1 and 9
+-- the digits 0 and 9
 abbrev pub naught : ℕ
 naught = 48
 
-abbrev pub one : ℕ
-one = 49
-
 abbrev pub nine : ℕ
 nine = 57
-
-abbrev pub colon : ℕ
-colon = 58
 
 abbrev pub capital_A : ℕ
 capital_A = 65

@@ -3,7 +3,8 @@ use Rattle.std.specs.Prelude.{ℕ, cond, ◌==◌}
 use Rattle.concord.specs.declared.reader.Reader.{Reader}
 use Rattle.concord.specs.declared.reader.State.{State}
 use Rattle.concord.specs.declared.reader.State.TheVariants as s
-use Rattle.concord.specs.Bytes.{space, hyphen, slash, naught, one, colon, digit, digit_from_1, value}
+use Rattle.date.specs.Bytes.{space, hyphen, slash, one, colon}
+use Rattle.concord.specs.Bytes.{naught, digit, digit_from_1, value}
 use Rattle.concord.specs.Ways.{Next, bad, at, with_letter, with_digit, with_era, with_minus, with_mark, with_month, with_day}
 
 -- after a year comes a slash or a hyphen

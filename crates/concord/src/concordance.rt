@@ -1,9 +1,10 @@
 ghost use Rattle.std.specs.Prelude.{◌≡◌};
-ghost use Rattle.concord.specs.Answering.{date_of, column, answered};
+ghost use Rattle.concord.specs.Answering.{date_of, column, columns_on, answered};
 ghost use Rattle.concord.specs.Concordance.{Concordant};
 
 use crate::letters::Letter;
 use crate::reader::Line;
+use calendar::calendar::Calendar;
 use date::dates::Date;
 use date::days::weekday;
 use date::faults::Fault;
@@ -23,17 +24,19 @@ pub(crate) struct Answer {
     pub(crate) columns: [Column; 2],
 }
 
-impl Line {
-    // The date of the line's numbers, if they fit.
-    fn date(&self) -> Result<Date, Fault>
-        ensures { result ≡ date_of self.now }
-    {
+// The date of the line's numbers, if they fit.
+impl TryFrom<Line> for Date {
+    type Error = Fault;
+
+    ghost try_from_gives = { λ line read. read ≡ date_of line };
+
+    fn try_from(line: Line) -> Result<Date, Fault> {
         Date::new(
-            i64::from(self.era),
-            self.year,
-            i64::from(self.mark),
-            i64::from(self.month),
-            i64::from(self.day),
+            i64::from(line.era),
+            line.year,
+            i64::from(line.mark),
+            i64::from(line.month),
+            i64::from(line.day),
         )
     }
 }
@@ -49,24 +52,30 @@ impl Column {
     }
 }
 
+// The day's date under every letter.
+fn columns_on(day: i32) -> [Column; 2]
+    ensures { result ≡ columns_on day }
+{
+    Letter::ALL.map(|letter| Column::new(letter, day))
+}
+
 // The first refusal ends it: in reading, in making the date, or by the calendar.
 fn answer_to(read: Result<Line, Fault>) -> Result<Answer, Fault>
     ensures { result ≡ answered read }
 {
     let line = read?;
-    let date = line.date()?;
+    let date = Date::try_from(line)?;
     let day = line.letter.day_of(date)?;
-    let weekday = weekday(day)?;
-    let columns = [Column::new(Letter::G, day), Column::new(Letter::J, day)];
     Ok(Answer {
         day,
-        weekday,
-        columns,
+        weekday: weekday(day)?,
+        columns: columns_on(day),
     })
 }
 
 impl Answer {
     // The answer to a line as it was read. Its dates are one day's: each, put to its own letter, gets the same answer.
+    #[tactic(auto, using(crate::proofs::Concording::concordant))]
     pub(crate) fn new(read: Result<Line, Fault>) -> Result<Answer, Fault>
         ensures value { result ≡ answered read }
         ensures concordant { Concordant }

@@ -11,10 +11,17 @@ pub(crate) enum Letter {
 }
 
 impl Letter {
-    // The letter that a byte writes. Another capital names no calendar, and any other byte is no letter.
-    pub(crate) fn read(byte: u8) -> Result<Letter, Cause>
-        ensures { result ≡ letter_of byte }
-    {
+    // Every letter, in the order of the columns.
+    pub(crate) const ALL: [Letter; 2] = [Letter::G, Letter::J];
+}
+
+// The letter that a byte writes. Another capital names no calendar, and any other byte is no letter.
+impl TryFrom<u8> for Letter {
+    type Error = Cause;
+
+    ghost try_from_gives = { λ byte read. read ≡ letter_of byte };
+
+    fn try_from(byte: u8) -> Result<Letter, Cause> {
         match byte {
             b'G' => Ok(Letter::G),
             b'J' => Ok(Letter::J),

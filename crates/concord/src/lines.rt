@@ -1,29 +1,30 @@
-ghost use Rattle.std.specs.Prelude.{◌≡◌};
+ghost use Rattle.std.specs.Prelude.{◌≡◌, pos};
+ghost use Rattle.date.specs.Refusals.{refusal};
 ghost use Rattle.concord.specs.Inputs.{EachAlone};
 ghost use Rattle.concord.specs.Lines.{fresh, finished, taken, fed, rest};
 
 use crate::reader::{Line, Reader};
-use date::faults::Fault;
+use date::faults::{Cause, Fault};
+use std::mem;
 
-// Lines cut from bytes that come one by one: the line in reading, the place of its next byte, and its refusal once no
-// line goes on with what was read.
+// Lines cut from bytes that come one by one: the line in reading, or its refusal once no line goes on with what was read,
+// and the place of its next byte.
 #[derive(Clone, Copy)]
 pub(crate) struct Lines {
-    reader: Reader,
+    reading: Result<Reader, Fault>,
     place: usize,
-    refused: Option<Fault>,
 }
 
 impl Lines {
     // At the start of an input. Each line of it is read as if it stood alone, once and in its order.
+    #[tactic(auto, using(crate::proofs::Fronts::each_alone))]
     pub(crate) fn new() -> Lines
         ensures value { result ≡ fresh }
         ensures alone { EachAlone }
     {
         Lines {
-            reader: Reader::new(),
+            reading: Ok(Reader::new()),
             place: 1,
-            refused: None,
         }
     }
 
@@ -33,9 +34,7 @@ impl Lines {
         ensures after { self.new ≡ (fed self.old byte).1 }
     {
         if byte == b'\n' {
-            let answer = self.finish();
-            *self = Lines::new();
-            return Some(answer);
+            return Some(mem::replace(self, Lines::new()).finish());
         }
         self.read(byte);
         None
@@ -45,10 +44,8 @@ impl Lines {
     pub(crate) fn end(&self) -> Option<Result<Line, Fault>>
         ensures { result ≡ rest self.now }
     {
-        if self.place == 1 {
-            if let None = self.refused {
-                return None;
-            }
+        if self.place == 1 && self.reading.is_ok() {
+            return None;
         }
         Some(self.finish())
     }
@@ -57,25 +54,26 @@ impl Lines {
     fn finish(&self) -> Result<Line, Fault>
         ensures { result ≡ finished self.now }
     {
-        if let Some(fault) = self.refused {
-            return Err(fault);
-        }
-        match self.reader.end() {
-            Ok(line) => Ok(line),
-            Err(cause) => Err(Fault::new(cause, self.place, 0, 0)),
-        }
+        self.reading?.end().map_err(|cause| self.refusal(cause))
     }
 
     // Takes a byte of a line. After a refusal the rest of the line is passed over.
     fn read(&mut self, byte: u8)
         ensures { self.new ≡ taken self.old byte }
     {
-        if let Some(_) = self.refused {
+        let Ok(reader) = &mut self.reading else {
             return;
-        }
-        match self.reader.step(byte) {
+        };
+        match reader.step(byte) {
             Ok(()) => self.place = self.place.saturating_add(1),
-            Err(cause) => self.refused = Some(Fault::new(cause, self.place, 0, 0)),
+            Err(cause) => self.reading = Err(self.refusal(cause)),
         }
+    }
+
+    // Why the line cannot go on, or not end, at the place that it has come to.
+    fn refusal(&self, cause: Cause) -> Fault
+        ensures { result ≡ refusal cause self.now.place (pos 0) 0 }
+    {
+        Fault::new(cause, self.place, 0, 0)
     }
 }

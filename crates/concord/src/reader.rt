@@ -1,4 +1,4 @@
-ghost use Rattle.std.specs.Prelude.{◌≡◌, ◌≤◌};
+ghost use Rattle.std.specs.Prelude.{◌≡◌, Ok};
 ghost use Rattle.concord.specs.Ending.{ended, year_of};
 ghost use Rattle.concord.specs.Reading.{next};
 ghost use Rattle.concord.specs.Ways.{start, answer, after, at, with_letter, with_digit, with_era, with_minus, with_mark, two_digits, with_month, with_day};
@@ -35,8 +35,8 @@ pub(crate) struct Line {
     pub(crate) era: u16,
     pub(crate) year: i64,
     pub(crate) mark: u8,
-    pub(crate) month: u8,
-    pub(crate) day: u8,
+    pub(crate) month: u16,
+    pub(crate) day: u16,
 }
 
 // A line in reading: what was read last, and what is known by then. `number` is the digits of an era or a year.
@@ -48,16 +48,15 @@ pub(crate) struct Reader {
     minus: bool,
     number: u32,
     mark: u8,
-    month: u8,
-    day: u8,
+    month: u16,
+    day: u16,
 }
 
 // A number of two digits at most, when one more is read.
-fn two_digits(number: u8, digit: u8) -> u8
-    requires { digit ≤ 9 }
+fn two_digits(number: u16, digit: u8) -> u16
     ensures { result ≡ two_digits number digit }
 {
-    number % 10 * 10 + digit
+    number % 10 * 10 + u16::from(digit)
 }
 
 impl Reader {
@@ -81,32 +80,36 @@ impl Reader {
         ensures answer { result ≡ answer (next self.old byte) }
         ensures after { self.new ≡ after self.old (next self.old byte) }
     {
-        match (self.state, byte) {
-            (State::Nothing, _) => self.take_letter(byte),
-            (State::Letter, b' ') => self.take(State::Space),
-            (State::Space, b'1'..=b'9') => self.take_digit(byte - b'0', State::Number),
-            (State::Number, b'0'..=b'9') => self.take_digit(byte - b'0', State::Number),
-            (State::Number, b':') => self.take_era(),
-            (State::Space | State::Colon, b'-') => self.take_minus(),
-            (State::Space | State::Colon, b'0') => self.take(State::Zero),
-            (State::Colon | State::Minus, b'1'..=b'9') => self.take_digit(byte - b'0', State::Year),
-            (State::Year, b'0'..=b'9') => self.take_digit(byte - b'0', State::Year),
-            (State::Number | State::Zero | State::Year, b'/') => self.take(State::Slash),
-            (State::Number | State::Zero | State::Year, b'-') => self.take(State::YearEnd),
-            (State::Slash, b'1') => self.take_mark(),
-            (State::Mark, b'-') => self.take(State::YearEnd),
-            (State::YearEnd, b'0'..=b'9') => self.take_month(byte - b'0', State::MonthTens),
-            (State::MonthTens, b'0'..=b'9') => self.take_month(byte - b'0', State::Month),
-            (State::Month, b'-') => self.take(State::MonthEnd),
-            (State::MonthEnd, b'0'..=b'9') => self.take_day(byte - b'0', State::DayTens),
-            (State::DayTens, b'0'..=b'9') => self.take_day(byte - b'0', State::Day),
-            _ => Err(Cause::Malformed),
-        }
+        *self = match (self.state, byte) {
+            (State::Nothing, _) => self.with_letter(byte)?,
+            (State::Letter, b' ') => self.at(State::Space),
+            (State::Space, b'1'..=b'9') => self.with_digit(byte - b'0', State::Number)?,
+            (State::Number, b'0'..=b'9') => self.with_digit(byte - b'0', State::Number)?,
+            (State::Number, b':') => self.with_era()?,
+            (State::Space | State::Colon, b'-') => self.with_minus(),
+            (State::Space | State::Colon, b'0') => self.at(State::Zero),
+            (State::Colon | State::Minus, b'1'..=b'9') => self.with_digit(
+                byte - b'0',
+                State::Year,
+            )?,
+            (State::Year, b'0'..=b'9') => self.with_digit(byte - b'0', State::Year)?,
+            (State::Number | State::Zero | State::Year, b'/') => self.at(State::Slash),
+            (State::Number | State::Zero | State::Year, b'-') => self.at(State::YearEnd),
+            (State::Slash, b'1') => self.with_mark(),
+            (State::Mark, b'-') => self.at(State::YearEnd),
+            (State::YearEnd, b'0'..=b'9') => self.with_month(byte - b'0', State::MonthTens),
+            (State::MonthTens, b'0'..=b'9') => self.with_month(byte - b'0', State::Month),
+            (State::Month, b'-') => self.at(State::MonthEnd),
+            (State::MonthEnd, b'0'..=b'9') => self.with_day(byte - b'0', State::DayTens),
+            (State::DayTens, b'0'..=b'9') => self.with_day(byte - b'0', State::Day),
+            _ => return Err(Cause::Malformed),
+        };
+        Ok(())
     }
 
     // The line, if it may end here.
-    pub(crate) fn end(&self) -> Result<Line, Cause>
-        ensures { result ≡ ended self.now }
+    pub(crate) fn end(self) -> Result<Line, Cause>
+        ensures { result ≡ ended self }
     {
         match self.state {
             State::Day => Ok(Line {
@@ -121,94 +124,89 @@ impl Reader {
         }
     }
 
-    fn year(&self) -> i64
-        ensures { result ≡ year_of self.now }
+    fn year(self) -> i64
+        ensures { result ≡ year_of self }
     {
         let size = i64::from(self.number);
         if self.minus { -size } else { size }
     }
 
-    // A byte that only leads on.
-    fn take(&mut self, state: State) -> Result<(), Cause>
-        ensures answer { result ≡ answer (at state self.old) }
-        ensures after { self.new ≡ after self.old (at state self.old) }
+    // After a byte that only leads on.
+    fn at(self, state: State) -> Reader
+        ensures { Ok result ≡ at state self }
     {
-        self.state = state;
-        Ok(())
+        Reader { state, ..self }
     }
 
-    fn take_letter(&mut self, byte: u8) -> Result<(), Cause>
-        ensures answer { result ≡ answer (with_letter byte self.old) }
-        ensures after { self.new ≡ after self.old (with_letter byte self.old) }
+    fn with_letter(self, byte: u8) -> Result<Reader, Cause>
+        ensures { result ≡ with_letter byte self }
     {
-        self.letter = Letter::read(byte)?;
-        self.state = State::Letter;
-        Ok(())
+        Ok(Reader {
+            letter: Letter::try_from(byte)?,
+            ..self.at(State::Letter)
+        })
     }
 
     // One digit more of an era or a year, which has five at most.
-    fn take_digit(&mut self, digit: u8, state: State) -> Result<(), Cause>
-        requires { digit ≤ 9 }
-        ensures answer { result ≡ answer (with_digit digit state self.old) }
-        ensures after { self.new ≡ after self.old (with_digit digit state self.old) }
+    fn with_digit(self, digit: u8, state: State) -> Result<Reader, Cause>
+        ensures { result ≡ with_digit digit state self }
     {
         if self.number >= 10_000 {
             return Err(Cause::Malformed);
         }
-        self.number = self.number * 10 + u32::from(digit);
-        self.state = state;
-        Ok(())
+        Ok(Reader {
+            number: self.number * 10 + u32::from(digit),
+            ..self.at(state)
+        })
     }
 
     // The colon after a number of three digits at most, which is then the era.
-    fn take_era(&mut self) -> Result<(), Cause>
-        ensures answer { result ≡ answer (with_era self.old) }
-        ensures after { self.new ≡ after self.old (with_era self.old) }
+    fn with_era(self) -> Result<Reader, Cause>
+        ensures { result ≡ with_era self }
     {
         if self.number >= 1_000 {
             return Err(Cause::Malformed);
         }
-        self.era = self.number as u16;
-        self.number = 0;
-        self.state = State::Colon;
-        Ok(())
+        Ok(Reader {
+            era: self.number as u16,
+            number: 0,
+            ..self.at(State::Colon)
+        })
     }
 
-    fn take_minus(&mut self) -> Result<(), Cause>
-        ensures answer { result ≡ answer (with_minus self.old) }
-        ensures after { self.new ≡ after self.old (with_minus self.old) }
+    fn with_minus(self) -> Reader
+        ensures { Ok result ≡ with_minus self }
     {
-        self.minus = true;
-        self.state = State::Minus;
-        Ok(())
+        Reader {
+            minus: true,
+            ..self.at(State::Minus)
+        }
     }
 
-    fn take_mark(&mut self) -> Result<(), Cause>
-        ensures answer { result ≡ answer (with_mark self.old) }
-        ensures after { self.new ≡ after self.old (with_mark self.old) }
+    fn with_mark(self) -> Reader
+        ensures { Ok result ≡ with_mark self }
     {
-        self.mark = 1;
-        self.state = State::Mark;
-        Ok(())
+        Reader {
+            mark: 1,
+            ..self.at(State::Mark)
+        }
     }
 
-    fn take_month(&mut self, digit: u8, state: State) -> Result<(), Cause>
-        requires { digit ≤ 9 }
-        ensures answer { result ≡ answer (with_month digit state self.old) }
-        ensures after { self.new ≡ after self.old (with_month digit state self.old) }
+    fn with_month(self, digit: u8, state: State) -> Reader
+        ensures { Ok result ≡ with_month digit state self }
     {
-        self.month = two_digits(self.month, digit);
-        self.state = state;
-        Ok(())
+        Reader {
+            month: two_digits(self.month, digit),
+            ..self.at(state)
+        }
     }
 
-    fn take_day(&mut self, digit: u8, state: State) -> Result<(), Cause>
-        requires { digit ≤ 9 }
-        ensures answer { result ≡ answer (with_day digit state self.old) }
-        ensures after { self.new ≡ after self.old (with_day digit state self.old) }
+    fn with_day(self, digit: u8, state: State) -> Reader
+        ensures { Ok result ≡ with_day digit state self }
     {
-        self.day = two_digits(self.day, digit);
-        self.state = state;
-        Ok(())
+        Reader {
+            day: two_digits(self.day, digit),
+            ..self.at(state)
+        }
     }
 }

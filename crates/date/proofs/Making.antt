@@ -1,14 +1,34 @@
 -- `dated` at numbers that fit, and at others; and a made date's numbers.
-use Rattle.std.proofs.Common.{◌≡◌, ℕ, Bool, true, false, ℤ, pos, nat_abs, ◌≤ℤ◌, Ok, Err, sym, refl, ap, ◌∙◌, subst, arith}
+use Rattle.std.proofs.Common.{◌≡◌, ℕ, Bool, true, false, cond, ℤ, pos, Some, None, Option, nat_abs, ◌≤ℤ◌, Ok, Err, sym, refl, ap, ◌∙◌, subst, arith}
 use lib.Signed.{le_z}
 use Rattle.std.proofs.lemmas.Int.{ints}
 use Rattle.std.proofs.lemmas.Bool.{true≢false, eq-eqb, ne_eqb, and_from, cond-true}
 use Rattle.date.specs.declared.dates.Date.{Date}
 use Rattle.date.specs.declared.faults.Cause.TheVariants.{Field}
 use Rattle.date.specs.Dated.{dated, dated_by, the_date, whole, fitting}
-use Rattle.date.specs.Fields.{between, misfit, fits}
-use Rattle.date.specs.Refusals.{refusal}
+use Rattle.date.specs.declared.faults.Field.{Field as DateField}
+use Rattle.date.specs.declared.faults.Field.TheVariants as f
+use Rattle.date.specs.Fields.{between, misfit, fits, era_fits, year_fits, mark_fits, month_fits, day_fits}
+use Rattle.date.specs.Misfits.{first_misfit}
+use Rattle.date.specs.Refusals.{place_of, refusal}
 use Rattle.date.proofs.Keys.{Ranged, same_date}
+
+-- a field of the number n, which is not 0; and none where n is 0
+abbrev pub Numbered : Option DateField → ℕ → Type 0
+Numbered (Some x) n = (n ≡ place_of x) × (n ≡ 0 → ⊥)
+Numbered None n = n ≡ 0
+
+-- the first field that is out of its range has the number by which it is refused
+tested : (a b c g t : Bool) → Numbered (cond a (cond b (cond c (cond g (cond t None (Some f.Day)) (Some f.Month)) (Some f.Mark)) (Some f.Year)) (Some f.Era)) (cond a (cond b (cond c (cond g (cond t 0 5) 4) 3) 2) 1)
+tested false b c g t = (refl, λ e. omega arith)
+tested true false c g t = (refl, λ e. omega arith)
+tested true true false g t = (refl, λ e. omega arith)
+tested true true true false t = (refl, λ e. omega arith)
+tested true true true true false = (refl, λ e. omega arith)
+tested true true true true true = refl
+
+pub misfit_named : (e y k m d : ℤ) → Numbered (first_misfit e y k m d) (misfit e y k m d)
+misfit_named e y k m d = tested (era_fits e) (year_fits y) (mark_fits k) (month_fits m) (day_fits d)
 
 -- a date is made of its own numbers
 pub dated_is : (x : Date) (e y k m d : ℤ) → pos x.era ≡ e → x.year ≡ y → pos x.mark ≡ k → pos x.month ≡ m → pos x.day ≡ d → dated e y k m d ≡ Ok x

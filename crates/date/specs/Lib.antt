@@ -2,5 +2,8 @@ pub mod Fields
 pub mod Refusals
 pub mod Days
 pub mod Division
+pub mod Misfits
 pub mod Dated
 pub mod Order
+pub mod Bytes
+pub mod Writing

@@ -1,8 +1,10 @@
 -- Refusals: their numbers, and how they travel.
-use Rattle.std.specs.Prelude.{ℕ, ◌+◌, min, ℤ, Ok, Err, Result}
+use Rattle.std.specs.Prelude.{ℕ, ◌+◌, min, ℤ, pos, Ok, Err, Result}
 use Rattle.date.specs.declared.faults.Cause.{Cause}
 use Rattle.date.specs.declared.faults.Cause.TheVariants.{Malformed, NoLetter, Field, OutsideRange, Skipped, OutsideEra, NoDate, UnsoundSeam, BadRow, Full, ReferenceStands, NoRow, OutputShort, BadStyle}
 use Rattle.date.specs.declared.faults.Fault.{Fault}
+use Rattle.date.specs.declared.faults.Field.{Field as DateField}
+use Rattle.date.specs.declared.faults.Field.TheVariants as f
 
 -- the number of each cause
 abbrev pub number_of : Cause → ℕ
@@ -21,9 +23,25 @@ number_of NoRow = 12
 number_of OutputShort = 13
 number_of BadStyle = 14
 
+-- the number of each field of a date
+abbrev pub place_of : DateField → ℕ
+place_of f.Era = 1
+place_of f.Year = 2
+place_of f.Mark = 3
+place_of f.Month = 4
+place_of f.Day = 5
+
 -- a refusal as it is first given: cause, place, day and kind, at level 0
 abbrev pub refusal : Cause → ℕ → ℤ → ℕ → Fault
 refusal c p n k = record { cause = c; place = p; day = n; kind = k; level = 0 }
+
+-- a refusal that names neither a place nor a day
+abbrev pub plainly : Cause → ℕ → Fault
+plainly c k = refusal c 0 (pos 0) k
+
+-- the refusal of a field of a date
+abbrev pub misfitting : DateField → ℕ → Fault
+misfitting f k = refusal Field (place_of f) (pos 0) k
 
 -- one level higher, up to 255, and nothing else altered
 abbrev pub lifted : Fault → Fault

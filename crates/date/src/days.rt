@@ -1,4 +1,4 @@
-ghost use Rattle.std.specs.Prelude.{◌≡◌};
+ghost use Rattle.std.specs.Prelude.{◌≡◌, true, false, Some, None};
 ghost use Rattle.date.specs.Days.{within, weekday_on};
 
 use crate::division::divide;
@@ -15,12 +15,36 @@ pub fn in_range(day: i32) -> bool
     FIRST_DAY <= day && day <= LAST_DAY
 }
 
+// A day of the range.
+#[derive(Clone, Copy, PartialEq, Eq, PartialOrd, Ord, Debug)]
+pub struct Day {
+    number: i32,
+    ghost ok: { within number ≡ true },
+}
+
+impl Day {
+    // The day of that number, if it is in the range.
+    pub fn new(number: i32) -> Option<Day>
+        ensures { elim result [ Some d ↦ (within number ≡ true) × (d.number ≡ number) | None ↦ within number ≡ false ] }
+    {
+        if in_range(number) {
+            Some(Day { number })
+        } else {
+            None
+        }
+    }
+
+    pub fn number(self) -> i32
+        ensures { result ≡ self.number }
+    {
+        self.number
+    }
+}
+
 // The weekday of a day, 0 for Sunday to 6 for Saturday.
 pub fn weekday(day: i32) -> Result<u8, Fault>
     ensures { result ≡ weekday_on day }
 {
-    if !in_range(day) {
-        return Err(Fault::new(Cause::OutsideRange, 0, 0, 0));
-    }
-    Ok(divide(day as u64, 7).1 as u8)
+    let day = Day::new(day).ok_or(Fault::plain(Cause::OutsideRange, 0))?;
+    Ok(divide(day.number as u64, 7).1 as u8)
 }

@@ -17,6 +17,16 @@ pub enum Cause {
     BadStyle = 14,
 }
 
+// The fields of a date, each with the number by which a refusal names it.
+#[derive(Clone, Copy, PartialEq, Eq, Debug)]
+pub enum Field {
+    Era = 1,
+    Year = 2,
+    Mark = 3,
+    Month = 4,
+    Day = 5,
+}
+
 // A refusal: its cause; its place, a field of a date or a byte of a line; the day that the rule names; the kind of the
 // calendar or layer that refused; and how many layers have handed it on. What a rule does not name is 0.
 #[derive(Clone, Copy, PartialEq, Eq, Debug)]

@@ -5,3 +5,4 @@ pub mod days;
 pub mod division;
 pub mod faults;
 pub mod refusals;
+pub mod writing;

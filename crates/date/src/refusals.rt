@@ -1,13 +1,21 @@
 ghost use Rattle.std.specs.Prelude.{◌≡◌};
-ghost use Rattle.date.specs.Refusals.{number_of, refusal, lifted, handed, replaced};
+ghost use Rattle.date.specs.Refusals.{number_of, place_of, refusal, plainly, misfitting, lifted, handed, replaced};
 
-use crate::faults::{Cause, Fault};
+use crate::faults::{Cause, Fault, Field};
 
 impl Cause {
     pub fn number(self) -> u8
         ensures { result ≡ number_of self }
     {
         self as u8
+    }
+}
+
+impl Field {
+    pub fn place(self) -> usize
+        ensures { result ≡ place_of self }
+    {
+        self as usize
     }
 }
 
@@ -25,6 +33,20 @@ impl Fault {
         }
     }
 
+    // A refusal that names neither a place nor a day.
+    pub fn plain(cause: Cause, kind: u8) -> Fault
+        ensures { result ≡ plainly cause kind }
+    {
+        Fault::new(cause, 0, 0, kind)
+    }
+
+    // The refusal of a field.
+    pub fn misfit(field: Field, kind: u8) -> Fault
+        ensures { result ≡ misfitting field kind }
+    {
+        Fault::new(Cause::Field, field.place(), 0, kind)
+    }
+
     // The refusal one level higher. The level stops at 255.
     pub fn lift(self) -> Fault
         ensures { result ≡ lifted self }
@@ -40,18 +62,12 @@ impl Fault {
 pub fn hand_on<X>(answer: Result<X, Fault>) -> Result<X, Fault>
     ensures { result ≡ handed answer }
 {
-    match answer {
-        Ok(x) => Ok(x),
-        Err(fault) => Err(fault.lift()),
-    }
+    answer.map_err(Fault::lift)
 }
 
 // The answer, with another refusal in place of its own.
 pub fn instead<X>(answer: Result<X, Fault>, fault: Fault) -> Result<X, Fault>
     ensures { result ≡ replaced fault answer }
 {
-    match answer {
-        Ok(x) => Ok(x),
-        Err(_) => Err(fault),
-    }
+    answer.map_err(|_| fault)
 }

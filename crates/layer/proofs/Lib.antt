@@ -1,2 +1,2 @@
-pub mod Seams
 pub mod Rows
+pub mod Seams

@@ -1,6 +1,6 @@
 ghost use Rattle.std.specs.Prelude.{◌≡◌, pos, ◌+ℤ◌, ◌-ℤ◌};
 ghost use Rattle.calendar.specs.Piles.{meaning, calendar as calendar_of};
-ghost use Rattle.calendar.specs.Styles.{mark_of, renumbered, restyled, numbered_back, unstyled, styled};
+ghost use Rattle.calendar.specs.Styles.{style_kind, mark_of, renumbered, restyled, numbered_back, unstyled, styled};
 ghost use Rattle.layer.specs.Sounding.{style_sound};
 ghost use Rattle.layer.specs.StyleRules.{style_fits, ruled, year_style};
 
@@ -8,8 +8,8 @@ use calendar::calendar::{Calendar, Kind};
 use date::dates::Date;
 use date::dates::making::{DAY_TO, MONTH_TO};
 use date::days::in_range;
-use date::faults::{Cause, Fault};
-use date::refusals::{hand_on, instead};
+use date::faults::{Cause, Fault, Field};
+use date::refusals::hand_on;
 
 // The range of what is added to a year.
 pub const ADDITION_FROM: i64 = -9_999;
@@ -26,50 +26,38 @@ pub struct StyleRule {
 
 impl Kind for StyleRule {
     const KIND: u8 = 9;
+
+    ghost KIND = { style_kind };
 }
 
 fn fits(month: i64, day: i64, addition: i64) -> bool
     ensures { result ≡ style_fits month day addition }
 {
-    1 <= month
-        && month <= MONTH_TO
-        && 1 <= day
-        && day <= DAY_TO
-        && ADDITION_FROM <= addition
-        && addition <= ADDITION_TO
-}
-
-// The rule of three numbers, or the refusal of numbers that do not fit.
-fn make(month: i64, day: i64, addition: i64) -> Result<StyleRule, Fault>
-    ensures { result ≡ ruled month day addition }
-{
-    if !fits(month, day, addition) {
-        return Err(Fault::new(Cause::BadStyle, 0, 0, StyleRule::KIND));
-    }
-    Ok(StyleRule {
-        month: month as u8,
-        day: day as u8,
-        addition: addition as i32,
-    })
+    (1..=MONTH_TO).contains(&month)
+        && (1..=DAY_TO).contains(&day)
+        && (ADDITION_FROM..=ADDITION_TO).contains(&addition)
 }
 
 impl StyleRule {
-    // Three numbers of any value are tested.
+    // The rule of three numbers of any value, or the refusal of numbers that do not fit.
     pub fn new(month: i64, day: i64, addition: i64) -> Result<StyleRule, Fault>
         ensures { result ≡ ruled month day addition }
     {
-        make(month, day, addition)
+        if !fits(month, day, addition) {
+            return Err(Fault::plain(Cause::BadStyle, Self::KIND));
+        }
+        Ok(StyleRule {
+            month: month as u8,
+            day: day as u8,
+            addition: addition as i32,
+        })
     }
 
     // The mark of a month and day: 1 before the start.
     fn mark(&self, month: u8, day: u8) -> u8
         ensures { result ≡ mark_of (year_style self.now) month day }
     {
-        if month < self.month || (month == self.month && day < self.day) {
-            1
-        } else {
-            0
-        }
+        u8::from((month, day) < (self.month, self.day))
     }
 
     fn year_above(&self, year: i32, mark: u8) -> i64
@@ -89,21 +77,16 @@ impl StyleRule {
         ensures { result ≡ renumbered (year_style self.now) mark below.now }
     {
         let year = self.year_above(below.year(), mark);
-        let date = Date::new(
-            0,
-            year,
-            i64::from(mark),
-            i64::from(below.month()),
-            i64::from(below.day()),
-        );
-        instead(date, Fault::new(Cause::NoDate, 0, 0, StyleRule::KIND))
+        below
+            .with(0, year, i64::from(mark))
+            .map_err(|_| Fault::plain(Cause::NoDate, Self::KIND))
     }
 
     fn restyle(&self, below: &Date) -> Result<Date, Fault>
         ensures { result ≡ restyled (year_style self.now) below.now }
     {
         if below.era() != 0 || below.mark() != 0 {
-            return Err(Fault::new(Cause::NoDate, 0, 0, StyleRule::KIND));
+            return Err(Fault::plain(Cause::NoDate, Self::KIND));
         }
         self.renumber(self.mark(below.month(), below.day()), below)
     }
@@ -113,18 +96,18 @@ impl StyleRule {
         ensures { result ≡ numbered_back (year_style self.now) date.now }
     {
         let year = self.year_below(date.year(), date.mark());
-        let below = Date::new(0, year, 0, i64::from(date.month()), i64::from(date.day()));
-        instead(below, Fault::new(Cause::Field, 2, 0, StyleRule::KIND))
+        date.with(0, year, 0)
+            .map_err(|_| Fault::misfit(Field::Year, Self::KIND))
     }
 
     fn unstyle(&self, date: &Date) -> Result<Date, Fault>
         ensures { result ≡ unstyled (year_style self.now) date.now }
     {
         if date.era() != 0 {
-            return Err(Fault::new(Cause::Field, 1, 0, StyleRule::KIND));
+            return Err(Fault::misfit(Field::Era, Self::KIND));
         }
         if date.mark() != self.mark(date.month(), date.day()) {
-            return Err(Fault::new(Cause::Field, 3, 0, StyleRule::KIND));
+            return Err(Fault::misfit(Field::Mark, Self::KIND));
         }
         self.number_back(date)
     }
@@ -134,6 +117,12 @@ impl StyleRule {
 pub struct Style<C: Calendar> {
     rule: StyleRule,
     below: C,
+}
+
+impl<C: Calendar> Kind for Style<C> {
+    const KIND: u8 = StyleRule::KIND;
+
+    ghost KIND = { style_kind };
 }
 
 impl<C: Calendar> Style<C> {
@@ -151,7 +140,7 @@ impl<C: Calendar> Calendar for Style<C> {
 
     fn date_on(&self, day: i32) -> Result<Date, Fault> {
         if !in_range(day) {
-            return Err(Fault::new(Cause::OutsideRange, 0, 0, StyleRule::KIND));
+            return Err(Fault::plain(Cause::OutsideRange, Self::KIND));
         }
         let below = hand_on(self.below.date_on(day))?;
         self.rule.restyle(&below)

@@ -1,148 +1,130 @@
-ghost use Rattle.std.specs.Prelude.{◌≡◌, true, [], pos};
-ghost use Rattle.calendar.specs.Eras.{belonging};
+ghost use Rattle.std.specs.Prelude.{◌≡◌, [], pos};
+ghost use Rattle.std.specs.Option.{unwrap_or};
+ghost use Rattle.calendar.specs.Eras.{era_kind, belonging};
 ghost use Rattle.calendar.specs.Rows.{row_of, era_on as era_of};
-ghost use Rattle.layer.specs.Tables.{number_fits, follows, last_first, used, table_fits, may_add, with_row, may_amend, with_number, done_if};
+ghost use Rattle.layer.specs.Tables.{number_fits, follows, last_first, may_add, with_row, may_amend, with_number, done_if, bad_row as bad_row_of};
 
+use arrayvec::ArrayVec;
 use calendar::calendar::Kind;
 use calendar::rows::Row;
 use date::days::in_range;
 use date::faults::{Cause, Fault};
+use std::marker::Model;
 
 // The most rows of a table, and the largest number that a row may have.
 pub const MOST_ROWS: usize = 16;
 
 pub const NUMBER_TO: u16 = 999;
 
-// Room for the rows, and how many are filled. A plain record: that its rows rise and fit is held by the layer around it.
-#[derive(Clone, Copy)]
+// The rows of an era layer, one after another.
+#[derive(Drop)]
 pub struct Table {
-    rows: [Row; MOST_ROWS],
-    len: usize,
+    rows: ArrayVec<Row, MOST_ROWS>,
+}
+
+// What is seen of a table is its rows. They rise and fit.
+impl Model for Table {
+    ghost use Rattle.std.specs.Prelude.{◌≡◌, true, List};
+    ghost use Rattle.calendar.specs.declared.rows.Row.{Row};
+    ghost use Rattle.layer.specs.Tables.{rows_fit};
+
+    ghost Value = { List Row };
+
+    ghost view = { λ t. t.rows.items };
+
+    ghost invariant = { λ t. rows_fit t.rows.items ≡ true };
 }
 
 impl Kind for Table {
     const KIND: u8 = 10;
+
+    ghost KIND = { era_kind };
 }
 
 fn is_number(number: u16) -> bool
     ensures { result ≡ number_fits number }
 {
-    1 <= number && number <= NUMBER_TO
+    (1..=NUMBER_TO).contains(&number)
 }
 
-// Whether the row may follow one that begins on the day `last`.
-fn may_follow(last: i32, row: Row) -> bool
-    ensures { result ≡ follows last row }
+// Whether the row may follow one that begins on the day `last`, or be the first.
+fn may_follow(last: Option<i32>, row: Row) -> bool
+    ensures { result ≡ follows (unwrap_or last (pos 0)) row }
 {
-    last < row.first && in_range(row.first) && is_number(row.number)
+    last.is_none_or(|last| last < row.first) && in_range(row.first) && is_number(row.number)
 }
 
+fn bad_row() -> Fault
+    ensures { result ≡ bad_row_of }
+{
+    Fault::plain(Cause::BadRow, Table::KIND)
+}
+
+#[tactic(auto, using(crate::proofs::Rows::of_rows))]
 impl Table {
     pub(crate) fn empty() -> Table
-        ensures rows { used result ≡ [] }
-        ensures fits { table_fits result ≡ true }
+        ensures { result ≡ [] }
     {
         Table {
-            rows: [Row {
-                first: 0,
-                number: 0,
-            }; 16],
-            len: 0,
+            rows: ArrayVec::new(),
         }
     }
 
-    // The day on which the last row begins, and 0 where there is none.
-    fn last_first(&self) -> i32
-        requires { table_fits self.now ≡ true }
-        ensures { result ≡ last_first (pos 0) (used self.now) }
+    // The day on which the last row begins.
+    fn last_first(&self) -> Option<i32>
+        ensures { unwrap_or result (pos 0) ≡ last_first (pos 0) self.now }
     {
-        if self.len == 0 {
-            0
-        } else {
-            self.rows[self.len - 1].first
-        }
+        self.rows.last().map(|row| row.first)
     }
 
     // One more row, after the others.
     pub(crate) fn add(&mut self, row: Row) -> Result<(), Fault>
-        requires { table_fits self.old ≡ true }
         ensures answer { result ≡ done_if (may_add self.old row) }
-        ensures rows { used self.new ≡ with_row self.old row }
-        ensures fits { table_fits self.new ≡ true }
+        ensures rows { self.new ≡ with_row self.old row }
     {
-        if self.len >= MOST_ROWS {
-            return Err(Fault::new(Cause::BadRow, 0, 0, Table::KIND));
-        }
         if !may_follow(self.last_first(), row) {
-            return Err(Fault::new(Cause::BadRow, 0, 0, Table::KIND));
+            return Err(bad_row());
         }
-        self.rows[self.len] = row;
-        self.len += 1;
-        Ok(())
+        self.rows.try_push(row).map_err(|_| bad_row())
     }
 
     // Another number for a row, counted from 1, in its place.
     pub(crate) fn amend(&mut self, row: usize, number: u16) -> Result<(), Fault>
-        requires { table_fits self.old ≡ true }
         ensures answer { result ≡ done_if (may_amend self.old row number) }
-        ensures rows { used self.new ≡ with_number self.old row number }
-        ensures fits { table_fits self.new ≡ true }
+        ensures rows { self.new ≡ with_number self.old row number }
     {
-        if row < 1 {
-            return Err(Fault::new(Cause::BadRow, 0, 0, Table::KIND));
-        }
-        if row > self.len {
-            return Err(Fault::new(Cause::BadRow, 0, 0, Table::KIND));
-        }
         if !is_number(number) {
-            return Err(Fault::new(Cause::BadRow, 0, 0, Table::KIND));
+            return Err(bad_row());
         }
-        self.rows[row - 1].number = number;
+        let place = row.checked_sub(1).ok_or(bad_row())?;
+        let amended = self.rows.get_mut(place).ok_or(bad_row())?;
+        amended.number = number;
         Ok(())
     }
 
-    // The number of the last row that began by the day, and 0 where none did.
-    fn last_begun(&self, day: i32) -> usize
-        requires { table_fits self.now ≡ true }
-        ensures { result ≡ era_of (used self.now) day }
-    {
-        let mut era = self.len;
-        while era > 0 && self.rows[era - 1].first > day {
-            era -= 1;
-        }
-        era
-    }
-
+    // The number of the last row that began by the day, and 0 where none did. The rows rise, so it is how many began.
     pub(crate) fn era_on(&self, day: i32) -> u8
-        requires { table_fits self.now ≡ true }
-        ensures { result ≡ era_of (used self.now) day }
+        ensures { result ≡ era_of self.now day }
     {
-        self.last_begun(day) as u8
+        self.rows.partition_point(|row| row.first <= day) as u8
     }
 
+    #[tactic(auto, using(crate::proofs::Rows::of_rows, std::proofs::lemmas::Option::gets))]
     pub(crate) fn row(&self, era: u8) -> Option<Row>
-        requires { table_fits self.now ≡ true }
-        ensures { result ≡ row_of (used self.now) era }
+        ensures { result ≡ row_of self.now era }
     {
-        let place = usize::from(era);
-        if place == 0 {
-            return None;
-        }
-        if place > self.len {
-            return None;
-        }
-        Some(self.rows[place - 1])
+        let place = usize::from(era).checked_sub(1)?;
+        self.rows.get(place).copied()
     }
 
     // The day, if it belongs to the era.
     pub(crate) fn belong(&self, era: u8, day: i32) -> Result<i32, Fault>
-        requires { table_fits self.now ≡ true }
-        ensures { result ≡ belonging (used self.now) era day }
+        ensures { result ≡ belonging self.now era day }
     {
         if self.era_on(day) == era {
             Ok(day)
         } else {
-            Err(Fault::new(Cause::OutsideEra, 0, 0, Table::KIND))
+            Err(Fault::plain(Cause::OutsideEra, Table::KIND))
         }
     }
 }

@@ -10,11 +10,11 @@ unfoldable pub new_year : ℕ → ℕ
 new_year y = molad_day y + delay (leap y) (leap (y - 1)) (weekday (molad_day y)) (molad_part y)
 
 -- the days of the year, from its new year to the next
-unfoldable pub year_days : ℕ → ℕ
+abbrev pub year_days : ℕ → ℕ
 year_days y = new_year (y + 1) - new_year y
 
 -- the day before the new year
-unfoldable pub before_year : ℤ → ℤ
+abbrev pub before_year : ℤ → ℤ
 before_year y = epoch +ℤ pos (new_year (unsigned_abs y)) -ℤ pos 1
 
 abbrev pub hebrew : Rule

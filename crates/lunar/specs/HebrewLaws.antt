@@ -1,27 +1,19 @@
 -- The Hebrew months fill their years, and the years follow each other without a gap.
-use Rattle.std.specs.Prelude.{◌≡◌, ℕ, zero, suc, ◌+◌, ◌-◌, ◌*◌, ◌≤◌, Bool, true, false, cond, ◌||◌, ℤ, pos, negsuc, ◌+ℤ◌, ◌-ℤ◌, ◌≤ℤ◌, ◌==◌, unsigned_abs, refl}
-use Rattle.std.proofs.Common.{arith, inl, inr, sym, ap, subst, ◌∙◌}
+use Rattle.std.specs.Prelude.{◌≡◌, ℕ, zero, suc, ◌+◌, ◌≤◌, Bool, true, false, ℤ, pos, negsuc, ◌+ℤ◌, ◌≤ℤ◌, unsigned_abs, refl}
+use Rattle.std.proofs.Common.{arith, inl, inr, sym, subst, add-one, sub-one}
 use Rattle.std.specs.Int.Signed.{le_z_yes}
 use Rattle.std.proofs.lemmas.Int.{ints}
 use Rattle.date.specs.Division.{remainder}
 use Rattle.date.proofs.Divisions.{floor_is, remainder_lt}
-use Rattle.reckoning.specs.Rules.{Sound, InYears}
+use Rattle.reckoning.specs.Rules.{Sound, InYears, end}
 use Rattle.lunar.specs.Hebrew.{new_year, year_days, before_year, hebrew}
-use Rattle.lunar.specs.HebrewMonths.{complete, deficient, days, of_first, before_month}
+use Rattle.lunar.specs.HebrewMonths.{days, of_first, before_month}
 use Rattle.lunar.specs.HebrewYears.{Length, Regular}
-use Rattle.lunar.specs.Molad.{leap, months_before, epoch, molad, weekday}
-use Rattle.lunar.specs.Computed.{more}
+use Rattle.lunar.specs.Molad.{leap, weekday}
 use Rattle.lunar.specs.NewYears.{year_fits, year_lengths, allowed_days}
 
-few_of : (a b c d e f l : Bool) → cond a (cond b 30 29) (cond c (cond d 29 30) (cond e (cond l 30 0) (cond f 30 29))) ≤ 30
-few_of a b c d e f l = grind arith
-
 pub few : (l : Bool) (n m : ℕ) → days l n m ≤ 30
-few l n m = few_of (m == 2) (complete n) (m == 3) (deficient n) (m == 6) (m == 1 || (m == 5 || (m == 8 || (m == 10 || m == 12)))) l
-
-pub before_small : (l : Bool) (n k : ℕ) → of_first (days l n) k ≤ 30 * k
-before_small l n zero = omega arith
-before_small l n (suc k) = let a = before_small l n k in let b = few l n (suc k) in omega arith
+few l n m = grind arith
 
 -- the months of a year make up its days
 months_fill : (l : Bool) (n : ℕ) → Length l n → of_first (days l n) 13 ≡ n
@@ -32,35 +24,28 @@ months_fill false n (inl e) = rw e refl
 months_fill false n (inr (inl e)) = rw e refl
 months_fill false n (inr (inr e)) = rw e refl
 
-pub month_more : (l : Bool) (n m : ℕ) → 1 ≤ m → before_month l n (m + 1) ≡ before_month l n m + days l n m
+month_more : (l : Bool) (n m : ℕ) → 1 ≤ m → before_month l n (m + 1) ≡ before_month l n m + days l n m
 month_more l n zero h = absurd (omega arith)
-month_more l n (suc k) h = let e : suc k + 1 - 1 ≡ suc k = omega arith in let f : suc k - 1 ≡ k = omega arith in rw (e, f) refl
+month_more l n (suc k) h = simp (add-one, sub-one)
 
 year_is : (a : ℕ) → 1 ≤ a → new_year (a + 1) ≡ new_year a + year_days a
-unfolding year_days
 year_is a h = let f = year_fits a h in omega arith
-
-turns : (a : ℕ) → 1 ≤ a → before_year (pos (a + 1)) ≡ before_year (pos a) +ℤ pos (year_days a)
-unfolding before_year
-turns a h = let e = year_is a h in omega (arith, ints)
 
 -- the first molad falls on a Monday
 week : (a : ℕ) → remainder (before_year (pos a) +ℤ pos 0 +ℤ pos 1) 7 ≡ weekday (new_year a)
-unfolding before_year
 week a =
-    let day : ℤ = epoch +ℤ pos (new_year a) -ℤ pos 1 +ℤ pos 0 +ℤ pos 1 in
+    let day : ℤ = before_year (pos a) +ℤ pos 0 +ℤ pos 1 in
     let e = floor_is day 7 (omega arith) in
     let l = remainder_lt day 7 (omega arith) in
     omega (arith, ints)
 
-pub regular : (y : ℤ) → pos 1 ≤ℤ y → Regular y (year_days (unsigned_abs y))
+regular : (y : ℤ) → pos 1 ≤ℤ y → Regular y (year_days (unsigned_abs y))
 regular (negsuc a) h = absurd (omega (arith, ints))
 regular (pos a) h =
     let i : 1 ≤ a = omega (arith, ints) in
-    let t = turns a i in
-    let s : pos a +ℤ pos 1 ≡ pos (a + 1) = refl in
+    let t = year_is a i in
     record {
-      lasts = rw (s, t) (omega (arith, ints));
+      lasts = omega (arith, ints);
       length = year_lengths a i;
       filled = months_fill (leap a) (year_days a) (year_lengths a i);
       begins = (let w = week a in rw w (allowed_days a));
@@ -74,9 +59,9 @@ next y iy =
     omega (arith, ints)
 
 pub hebrew_sound : Sound hebrew
-unfolding before_year new_year molad months_before
+unfolding new_year
 hebrew_sound = record {
-  next_month = λ y m iy a b. more (before_year y) _ _ _ (month_more (leap (unsigned_abs y)) (year_days (unsigned_abs y)) m a);
+  next_month = λ y m iy a b. (let e = month_more (leap (unsigned_abs y)) (year_days (unsigned_abs y)) m a in omega (arith, ints));
   next_year = next;
   some_months = λ y iy. omega arith;
   few_months = λ y iy. omega arith;
@@ -87,16 +72,10 @@ hebrew_sound = record {
   end_fits = le_z_yes tt;
 }
 
--- the count in natural numbers
-pub count_is : (y : ℤ) (n d : ℕ) → pos n ≡ y → d ≡ new_year n → pos d -ℤ pos 1373428 ≡ before_year y
-unfolding before_year
-count_is y n d e f = back d ∙ ap (λ x. epoch +ℤ pos x -ℤ pos 1) (f ∙ ap (λ z. new_year (unsigned_abs z)) e)
-  where
-    back : (d : ℕ) → pos d -ℤ pos 1373428 ≡ epoch +ℤ pos d -ℤ pos 1
-    back d = omega (arith, ints)
+-- the last day of the last year
+pub hebrew_end : pos 35150867 ≡ end hebrew
+unfolding new_year
+hebrew_end = refl
 
-pub regular_by : (y : ℤ) (n d : ℕ) → pos 1 ≤ℤ y → pos n ≡ y → d ≡ year_days n → (d ≡ year_days (unsigned_abs y)) × Regular y d
-regular_by y n d h e f =
-    let g : d ≡ year_days (unsigned_abs y) = f ∙ ap (λ z. year_days (unsigned_abs z)) e in
-    let P : ℕ → Type 0 = λ x. Regular y x in
-    (g, subst P (sym g) (regular y h))
+pub regular_by : (y : ℤ) (n : ℕ) → pos 1 ≤ℤ y → n ≡ year_days (unsigned_abs y) → Regular y n
+regular_by y n h e = let P : ℕ → Type 0 = λ x. Regular y x in subst P (sym e) (regular y h)

@@ -4,11 +4,11 @@ use Rattle.date.specs.Division.{floor, remainder}
 use Rattle.reckoning.specs.Rules.{Rule}
 
 -- eleven years of thirty: (11y + 14) mod 30 < 11
-unfoldable pub leap : ℤ → Bool
+abbrev pub leap : ℤ → Bool
 leap y = nat_lt (remainder (pos 11 *ℤ y +ℤ pos 14) 30) 11
 
 -- 227,014 + 354(y − 1) + ⌊(11y + 3) / 30⌋
-unfoldable pub before_year : ℤ → ℤ
+abbrev pub before_year : ℤ → ℤ
 before_year y = pos 227014 +ℤ pos 354 *ℤ (y -ℤ pos 1) +ℤ floor (pos 11 *ℤ y +ℤ pos 3) 30
 
 -- 30 days and 29 in turn, and 30 in the twelfth month of a leap year

@@ -1,5 +1,5 @@
 -- The Islamic months and years follow each other without a gap.
-use Rattle.std.specs.Prelude.{◌≡◌, ℕ, ◌+◌, ◌*◌, ◌/◌, ◌%◌, ◌<◌, ◌≤◌, Bool, true, false, cond, ◌&&◌, ◌||◌, ◌≢◌, ℤ, pos, ◌+ℤ◌, ◌-ℤ◌, ◌*ℤ◌, ◌==◌, nat_lt, refl}
+use Rattle.std.specs.Prelude.{◌≡◌, ℕ, ◌+◌, ◌<◌, ◌≤◌, Bool, true, false, ℤ, pos, ◌+ℤ◌, ◌*ℤ◌, nat_lt, refl}
 use Rattle.std.proofs.Common.{arith}
 use Rattle.std.specs.Int.Signed.{le_z_yes}
 use Rattle.std.proofs.lemmas.Int.{ints}
@@ -8,24 +8,15 @@ use Rattle.date.specs.Division.{remainder}
 use Rattle.date.proofs.Divisions.{floors, one_if}
 use Rattle.reckoning.specs.Rules.{Sound}
 use Rattle.lunar.specs.Islamic.{leap, before_year, days, before_month, islamic}
-use Rattle.lunar.specs.Computed.{more}
 
 few : (l : Bool) (m : ℕ) → days l m ≤ 63
-few true m = grind arith
-few false m = grind arith
+few l m = grind arith
 
 month_more : (l : Bool) (m : ℕ) → 1 ≤ m → m < 12 → before_month (m + 1) ≡ before_month m + days l m
-month_more l m a b = by (m % 2 == 1) refl l (m == 12) refl
-  where
-    by : (t : Bool) → (m % 2 == 1) ≡ t → (l u : Bool) → (m == 12) ≡ u → before_month (m + 1) ≡ before_month m + cond (t || (l && u)) 30 29
-    by true e l u f = let g : m % 2 ≡ 1 = grind arith in omega arith
-    by false e l true f = absurd (let g : m ≡ 12 = grind arith in omega arith)
-    by false e true false f = let g : m % 2 ≢ 1 = grind arith in omega arith
-    by false e false false f = let g : m % 2 ≢ 1 = grind arith in omega arith
+month_more l m a b = grind arith
 
 -- a year has 354 days, and a leap year one more
 turns : (y : ℤ) → before_year (y +ℤ pos 1) ≡ before_year y +ℤ pos (354 + one_if (leap y))
-unfolding before_year leap
 turns y = by (nat_lt (remainder (pos 11 *ℤ y +ℤ pos 14) 30) 11) refl
   where
     same : pos 11 *ℤ (y +ℤ pos 1) +ℤ pos 3 ≡ pos 11 *ℤ y +ℤ pos 14
@@ -40,10 +31,9 @@ last_month true = refl
 last_month false = refl
 
 pub islamic_sound : Sound islamic
-unfolding before_year
 islamic_sound = record {
-  next_month = λ y m iy a b. (let e = month_more (leap y) m a b in more (before_year y) _ _ _ e);
-  next_year = λ y iy. (let e = turns y in let f = last_month (leap y) in rw e (year (before_year y) _ _ _ f));
+  next_month = λ y m iy a b. (let e = month_more (leap y) m a b in omega (arith, ints));
+  next_year = λ y iy. (let e = turns y in let f = last_month (leap y) in omega (arith, ints));
   some_months = λ y iy. omega arith;
   few_months = λ y iy. omega arith;
   few_days = λ y m iy im. few (leap y) m;
@@ -52,17 +42,3 @@ islamic_sound = record {
   start_fits = le_z_yes tt;
   end_fits = le_z_yes tt;
 }
-  where
-    year : (z : ℤ) (a b c : ℕ) → a + b ≡ c → z +ℤ pos c +ℤ pos 0 ≡ z +ℤ pos a +ℤ pos b
-    year z a b c e = omega (arith, ints)
-
--- the count and the test in natural numbers
-pub count_is : (y : ℤ) (n a : ℕ) → pos n ≡ y -ℤ pos 1 → a ≡ (11 * n + 14) / 30 → pos (227014 + 354 * n + a) ≡ before_year y
-unfolding before_year
-count_is y n a e p =
-    let same : pos 11 *ℤ y +ℤ pos 3 ≡ pos (11 * n + 14) = omega (arith, ints) in
-    rw (same, ← e) (omega (arith, ints))
-
-pub leap_is : (y : ℤ) (n : ℕ) → pos n ≡ y → nat_lt ((11 * n + 14) % 30) 11 ≡ leap y
-unfolding leap
-leap_is y n e = let same : pos 11 *ℤ y +ℤ pos 14 ≡ pos (11 * n + 14) = omega (arith, ints) in rw same refl

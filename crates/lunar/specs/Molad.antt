@@ -6,7 +6,7 @@ abbrev pub leap : ℕ → Bool
 leap y = nat_lt ((7 * y + 1) % 19) 7
 
 -- the months before the year: ⌊(235y − 234) / 19⌋
-unfoldable pub months_before : ℕ → ℕ
+abbrev pub months_before : ℕ → ℕ
 months_before y = (235 * y - 234) / 19
 
 -- the day of the first molad, −1,373,427: a Monday, from which the molads are counted
@@ -15,7 +15,7 @@ epoch = negsuc 1373426
 
 -- the molad of the year, in parts from the start of that day: the first comes after 5,604, and a month has 29 days, 12 hours
 -- and 793 parts, which are 765,433 parts
-unfoldable pub molad : ℕ → ℕ
+abbrev pub molad : ℕ → ℕ
 molad y = 5604 + 765433 * months_before y
 
 -- the day on which it falls, and at which part of the day

@@ -1,5 +1,7 @@
 -- The weekdays that the Hebrew new year asks for, by their numbers.
 use Rattle.std.specs.Prelude.{ℕ}
+use Rattle.lunar.specs.declared.weekday.Weekday.{Weekday}
+use Rattle.lunar.specs.declared.weekday.Weekday.TheVariants.{Sunday, Monday, Tuesday, Wednesday, Thursday, Friday, Saturday}
 
 abbrev pub sunday : ℕ
 sunday = 0
@@ -15,3 +17,13 @@ wednesday = 3
 
 abbrev pub friday : ℕ
 friday = 5
+
+-- the number of each weekday
+abbrev pub number_of : Weekday → ℕ
+number_of Sunday = sunday
+number_of Monday = monday
+number_of Tuesday = tuesday
+number_of Wednesday = wednesday
+number_of Thursday = 4
+number_of Friday = friday
+number_of Saturday = 6

@@ -1,152 +1,144 @@
-ghost use Rattle.std.specs.Prelude.{◌≡◌, ◌≤◌, pos, ◌≤ℤ◌, unsigned_abs};
+ghost use Rattle.std.specs.Prelude.{◌≡◌, pos, ◌≤ℤ◌, unsigned_abs, refl};
 ghost use Rattle.lunar.specs.Hebrew.{year_days, before_year, hebrew as hebrew_rule};
-ghost use Rattle.lunar.specs.HebrewMonths.{days, before_month};
+ghost use Rattle.lunar.specs.HebrewMonths.{complete, deficient, days, before_month};
 ghost use Rattle.lunar.specs.HebrewYears.{Regular};
-ghost use Rattle.lunar.specs.Molad.{leap as leap_in};
-ghost use Rattle.reckoning.specs.Rules.{end as last_of};
-ghost use Rattle.lunar.specs.HebrewLaws.{hebrew_sound};
+ghost use Rattle.lunar.specs.HebrewLaws.{hebrew_sound, hebrew_end};
 
 use crate::new_year::{DAY, MONTH, is_leap, new_year_day};
-use crate::years;
 use calendar::calendar::Kind;
+use date::days::Day;
 use date::division::divide;
+use reckoning::months::Months;
 use reckoning::reckoning::Reckoning;
+use reckoning::years::{self, Year};
 
 const MONTHS: u8 = 13;
+
+// The day from which the molads are counted, a Monday.
+const EPOCH: i32 = -1_373_427;
 
 #[derive(Clone, Copy)]
 pub struct Hebrew;
 
 impl Kind for Hebrew {
     const KIND: u8 = 5;
+
+    ghost KIND = { 5 };
 }
 
-// The days before the year: the molads are counted from day -1,373,427.
-fn days_before(year: i32) -> i32
-    requires { (pos 1 ≤ℤ year) × (year ≤ℤ pos 99999) }
-    ensures { result ≡ before_year year }
-{
-    new_year_day(year as u64) as i32 - 1_373_428
+// The months of a Hebrew year, by whether it is leap and by how many days it has.
+#[derive(Clone, Copy)]
+pub struct HebrewMonths {
+    leap: bool,
+    days: u16,
 }
 
-// The days from the year's first to the next year's.
-fn days_of_year(year: i32) -> u16
-    requires { (pos 1 ≤ℤ year) × (year ≤ℤ pos 99999) }
-    ensures days { result ≡ year_days (unsigned_abs year) }
-    ensures regular { Regular year result }
+impl HebrewMonths {
+    // A complete year has a day more than a regular one, and a deficient year a day less.
+    fn is_complete(self) -> bool
+        ensures { result ≡ complete self.days }
+    {
+        matches!(self.days, 355 | 385)
+    }
+
+    fn is_deficient(self) -> bool
+        ensures { result ≡ deficient self.days }
+    {
+        matches!(self.days, 353 | 383)
+    }
+}
+
+impl Months for HebrewMonths {
+    ghost months = { λ y. 13 };
+
+    ghost length = { λ y m. days y.leap y.days m };
+
+    ghost before = { λ y m. before_month y.leap y.days m };
+
+    fn count(&self) -> u8 {
+        MONTHS
+    }
+
+    // It asks nothing of the month, so that a sum over months may call it.
+    fn length(&self, month: u8) -> u8
+        ensures { result ≡ days self.now.leap self.now.days month }
+    {
+        match month {
+            2 if self.is_complete() => 30,
+            3 if self.is_deficient() => 29,
+            6 if !self.leap => 0,
+            1 | 3 | 5 | 6 | 8 | 10 | 12 => 30,
+            _ => 29,
+        }
+    }
+
+    fn elapsed(&self, month: u8) -> u16 {
+        (1..month)
+            .map(|earlier| u16::from(self.length(earlier)))
+            .sum()
+    }
+
+    fn month_near(&self, nth: u16) -> u8 {
+        (divide(2 * u64::from(nth), 59).0 + 1).min(13) as u8
+    }
+}
+
+// The days before the year.
+#[tactic(auto, using(crate::specs::NewYears::new_year_small))]
+fn days_before(year: Year) -> i32
+    ensures { result ≡ before_year (pos year.number) }
 {
-    let year = year as u64;
-    (new_year_day(year + 1) - new_year_day(year)) as u16
+    EPOCH + new_year_day(year) as i32 - 1
 }
 
 // The days of the year: 353, 354 or 355 if it is common, and 383, 384 or 385 if it is leap. Its months fill it, and it
 // begins on no Sunday, no Wednesday and no Friday.
+#[tactic(auto, using(crate::specs::NewYears::year_ends))]
 pub fn days_in_year(year: i32) -> u16
-    requires { (pos 1 ≤ℤ year) × (year ≤ℤ pos 99999) }
-    ensures { Regular year result }
+    requires from { pos 1 ≤ℤ year }
+    requires to { year ≤ℤ pos 99999 }
+    ensures days { result ≡ year_days (unsigned_abs year) }
+    ensures regular { Regular year result }
 {
-    days_of_year(year)
-}
-
-// The days of a month, by whether the year is leap and by how many days it has.
-fn days_in(leap: bool, year_days: u16, month: u8) -> u8
-    ensures { result ≡ days leap year_days month }
-{
-    match month {
-        2 => if year_days == 355 || year_days == 385 {
-            30
-        } else {
-            29
-        },
-        3 => if year_days == 353 || year_days == 383 {
-            29
-        } else {
-            30
-        },
-        6 => if leap { 30 } else { 0 },
-        1 | 5 | 8 | 10 | 12 => 30,
-        _ => 29,
-    }
-}
-
-// The days of the year before the month.
-fn days_before_month(leap: bool, year_days: u16, month: u8) -> u16
-    requires { (1 ≤ month) × (month ≤ 13) }
-    ensures { result ≡ before_month leap year_days month }
-{
-    let mut sum = 0;
-    for earlier in 1..month {
-        sum += u16::from(days_in(leap, year_days, earlier));
-    }
-    sum
-}
-
-// The days of a month of the year, and those of the year before it.
-fn length_in(year: i32, month: u8) -> u8
-    requires { (pos 1 ≤ℤ year) × (year ≤ℤ pos 99999) }
-    ensures { result ≡ days (leap_in (unsigned_abs year)) (year_days (unsigned_abs year)) month }
-{
-    days_in(is_leap(year as u64), days_of_year(year), month)
-}
-
-fn elapsed_in(year: i32, month: u8) -> u16
-    requires { (pos 1 ≤ℤ year) × ((year ≤ℤ pos 99999) × ((1 ≤ month) × (month ≤ 13))) }
-    ensures { result ≡ before_month (leap_in (unsigned_abs year)) (year_days (unsigned_abs year)) month }
-{
-    days_before_month(is_leap(year as u64), days_of_year(year), month)
-}
-
-// The last day of the last year.
-fn end() -> i32
-    ensures { result ≡ last_of hebrew_rule }
-{
-    35_150_867
+    let year = Year::new(year);
+    (new_year_day(year.next()) - new_year_day(year)) as u16
 }
 
 impl Reckoning for Hebrew {
+    type Months = HebrewMonths;
+
+    const FIRST: i32 = years::FIRST;
+
+    const LAST: i32 = years::LAST;
+
+    const LAST_DAY: i32 = 35_150_867;
+
+    ghost FIRST = { pos 1 };
+
+    ghost LAST = { pos 99999 };
+
+    ghost LAST_DAY = { pos 35150867 };
+
     ghost rule = { λ _. hebrew_rule };
 
-    ghost sound = { λ c. hebrew_sound };
-
-    fn kind(&self) -> u8 {
-        Hebrew::KIND
-    }
-
-    fn first(&self) -> i32 {
-        years::FIRST
-    }
-
-    fn last(&self) -> i32 {
-        years::LAST
-    }
-
-    fn last_day(&self) -> i32 {
-        end()
-    }
-
-    fn months(&self, year: i32) -> u8 {
-        MONTHS
-    }
-
-    fn length(&self, year: i32, month: u8) -> u8 {
-        length_in(year, month)
+    fn months(&self, year: i32) -> HebrewMonths {
+        HebrewMonths {
+            leap: is_leap(Year::new(year).number()),
+            days: days_in_year(year),
+        }
     }
 
     fn new_year(&self, year: i32) -> i32 {
-        days_before(year)
-    }
-
-    fn elapsed(&self, year: i32, month: u8) -> u16 {
-        elapsed_in(year, month)
+        days_before(Year::new(year))
     }
 
     // By mean years: nineteen have 235 months.
-    fn year_near(&self, day: i32) -> i32 {
-        let parts = (day as u64 + 1_373_428) * DAY;
+    fn year_near(&self, day: Day) -> i32 {
+        let parts = ((day.number() - EPOCH) as u64 + 1) * DAY;
         (divide(19 * parts, 235 * MONTH).0 + 1) as i32
     }
 
-    fn month_near(&self, year: i32, nth: u16) -> u8 {
-        (divide(2 * u64::from(nth), 59).0 + 1).min(13) as u8
-    }
+    ghost sound = { λ c. hebrew_sound };
+
+    ghost bounds = { λ c. record { kind = refl; first = refl; last = refl; last_day = hebrew_end } };
 }

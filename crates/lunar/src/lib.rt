@@ -3,4 +3,4 @@
 pub mod hebrew;
 pub mod islamic;
 mod new_year;
-mod years;
+mod weekday;

@@ -1,49 +1,22 @@
 -- The two answers of a rule, case by case, and how far the numbers of a count reach.
-use Rattle.std.proofs.Common.{◌≡◌, ℕ, ◌<◌, true, false, ◌&&◌, ◌⊎◌, ℤ, pos, negsuc, ◌≤ℤ◌, ◌<ℤ◌, Ok, Err, sym, ap, ◌∙◌, inl, inr, arith}
-use lib.Signed.{lt_z, le_z}
+use Rattle.std.proofs.Common.{◌≡◌, ℕ, false, ℤ, pos, negsuc, ◌≤ℤ◌, Err, sym, ap, ◌∙◌, arith}
 use Rattle.std.proofs.lemmas.Int.{ints}
-use Rattle.std.proofs.lemmas.Bool.{and_from, and_left, and_right, eq-eqb, ne_eqb, cond-true, cond-false}
-use Rattle.calendar.specs.Meaning.{outside_range}
+use Rattle.std.proofs.lemmas.Bool.{eq-eqb, cond-true, cond-false}
 use Rattle.date.specs.declared.dates.Date.{Date}
-use Rattle.date.specs.declared.faults.Cause.TheVariants.{Field, OutsideRange, NoDate}
+use Rattle.date.specs.declared.faults.Cause.TheVariants.{OutsideRange}
 use Rattle.date.specs.declared.faults.Fault.{Fault}
 use Rattle.date.specs.Days.{within}
 use Rattle.date.specs.Refusals.{refusal}
 use Rattle.date.proofs.Keys.{date_ranged}
-use Rattle.reckoning.specs.Reckoned.{on, of, misdated, counted, dated_on}
-use Rattle.reckoning.specs.Rules.{Rule, Sound, InYears, InMonths, end}
+use Rattle.reckoning.specs.Reckoned.{of, misdated, counted}
+use Rattle.reckoning.specs.Rules.{Rule, Sound, InYears, InMonths}
 use Rattle.reckoning.specs.Faiths.{checked}
-use Rattle.reckoning.specs.Orders.{is_lt, is_le, not_lt, not_le}
 use Rattle.reckoning.specs.Theory.{day_at, from_first, month_begins, day_in}
 
-module _ (r : Rule) (k : ℕ) (e : k ≡ r.kind) where
-  pub on_outside : (n : ℤ) (f : Fault) → within n ≡ false → f ≡ refusal OutsideRange 0 (pos 0) k → Err f ≡ on r n
-  unfolding on
-  on_outside n f w h = ap Err (h ∙ ap outside_range e) ∙ sym (cond-false _ _ _ w)
-
-  pub on_undated : (n : ℤ) (f : Fault) → within n ≡ true → (n ≤ℤ r.start r.first 1) ⊎ (end r <ℤ n) → f ≡ refusal NoDate 0 (pos 0) k → Err f ≡ on r n
-  unfolding on
-  on_undated n f w o h = ap Err (h ∙ ap (refusal NoDate 0 (pos 0)) e) ∙ sym (cond-true _ _ _ w ∙ cond-false _ _ _ (out o))
-    where
-      out : (n ≤ℤ r.start r.first 1) ⊎ (end r <ℤ n) → (lt_z (r.start r.first 1) n && le_z n (end r)) ≡ false
-      out (inl l) = and_left _ _ (not_lt _ _ l)
-      out (inr l) = and_right _ _ (not_le _ _ l)
-
-  pub of_misdated : (d : Date) (p : ℕ) (f : Fault) → p ≡ misdated r d → 0 < p → f ≡ refusal Field p (pos 0) k → Err f ≡ of r d
-  unfolding of
-  of_misdated d p f q l h = ap Err (h ∙ ap (λ x. refusal Field x (pos 0) k) q ∙ ap (refusal Field (misdated r d) (pos 0)) e) ∙ sym (cond-false _ _ _ (ne_eqb (misdated r d) 0 (λ z. omega arith)))
-
-  pub of_outside : (d : Date) (n : ℤ) (f : Fault) → misdated r d ≡ 0 → n ≡ day_at r d.year d.month d.day → within n ≡ false → f ≡ refusal OutsideRange 0 n k → Err f ≡ of r d
-  unfolding of
-  of_outside d n f q m w h = ap Err (h ∙ ap (refusal OutsideRange 0 n) e) ∙ sym (cond-true _ _ _ (eq-eqb _ _ q) ∙ ap (counted r) (sym m) ∙ cond-false _ _ _ w)
-
-pub on_dated : (r : Rule) (n : ℤ) → within n ≡ true → r.start r.first 1 <ℤ n → n ≤ℤ end r → dated_on r n ≡ on r n
-unfolding on
-on_dated r n w a b = sym (cond-true _ _ _ w ∙ cond-true _ _ _ (and_from _ _ (is_lt _ _ a) (is_le _ _ b)))
-
-pub of_counted : (r : Rule) (d : Date) (n : ℤ) → misdated r d ≡ 0 → n ≡ day_at r d.year d.month d.day → within n ≡ true → Ok n ≡ of r d
+-- the refusal of a date whose day is outside the range
+pub of_outside : (r : Rule) (k : ℕ) → k ≡ r.kind → (d : Date) (n : ℤ) (f : Fault) → misdated r d ≡ 0 → n ≡ day_at r d.year d.month d.day → within n ≡ false → f ≡ refusal OutsideRange 0 n k → Err f ≡ of r d
 unfolding of
-of_counted r d n q m w = sym (cond-true _ _ _ (eq-eqb _ _ q) ∙ ap (counted r) (sym m) ∙ cond-true _ _ _ w)
+of_outside r k e d n f q m w h = ap Err (h ∙ ap (refusal OutsideRange 0 n) e) ∙ sym (cond-true _ _ _ (eq-eqb _ _ q) ∙ ap (counted r) (sym m) ∙ cond-false _ _ _ w)
 
 -- a count lies far inside 32 bits, and so do its parts
 pub record Reach (r : Rule) (d : Date) : Type 0 where

@@ -1,4 +1,5 @@
 pub mod Rules
+pub mod Years
 pub mod Held
 pub mod Reckoned
 pub mod Faith

@@ -6,7 +6,8 @@ use Rattle.date.specs.declared.faults.Cause.TheVariants.{Field, OutsideRange, No
 use Rattle.date.specs.declared.faults.Fault.{Fault}
 use Rattle.date.specs.Dated.{dated}
 use Rattle.date.specs.Days.{within}
-use Rattle.date.specs.Refusals.{refusal}
+use Rattle.date.specs.declared.faults.Field.{Field as DateField}
+use Rattle.date.specs.Refusals.{refusal, place_of}
 use Rattle.reckoning.specs.Rules.{Rule, last_year, end, InYears, InMonths}
 
 -- A date names a day: it has no era and no mark, its year and its month are the rule's, its day is one of that month's,
@@ -33,6 +34,11 @@ month_days r y m = cond (nat_le m (r.months y)) (r.length y m) 0
 abbrev pub misdated : Rule → Date → ℕ
 misdated r d =
     cond (d.era == 0) (cond (has_year r d.year) (cond (d.mark == 0) (cond (month_days r d.year d.month == 0) 4 (cond (nat_le d.day (month_days r d.year d.month)) 0 5)) 3) 2) 1
+
+-- the number of the field that an answer refuses, and 0 where it refuses none
+abbrev pub place_in : {X : Type 0} → Result X DateField → ℕ
+place_in (Ok x) = 0
+place_in (Err f) = place_of f
 
 -- the day that a date counts to, if it is in the range
 abbrev pub counted : Rule → ℤ → Result ℤ Fault
@@ -62,9 +68,13 @@ dated_in r n y m = dated (pos 0) y (pos 0) (pos m) (n -ℤ r.start y m)
 unfoldable pub dated_on : Rule → ℤ → Result Date Fault
 dated_on r n = dated_in r n (year_on r n) (month_on r (year_on r n) n)
 
+-- a day comes after the start of the first year, and by the end of the last
+abbrev pub has_day : Rule → ℤ → Bool
+has_day r n = int_lt (r.start r.first 1) n && int_le n (end r)
+
 -- a day of the range is refused where it comes before the first year or after the last
 unfoldable pub on : Rule → ℤ → Result Date Fault
-on r n = cond (within n) (cond (int_lt (r.start r.first 1) n && int_le n (end r)) (dated_on r n) (Err (refusal NoDate 0 (pos 0) r.kind))) (Err (outside_range r.kind))
+on r n = cond (within n) (cond (has_day r n) (dated_on r n) (Err (refusal NoDate 0 (pos 0) r.kind))) (Err (outside_range r.kind))
 
 abbrev pub reckoned : Rule → Meaning
 reckoned r = record { kind = r.kind; on = on r; of = of r }

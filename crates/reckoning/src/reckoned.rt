@@ -1,17 +1,18 @@
-ghost use Rattle.std.specs.Prelude.{◌≡◌, ◌≤◌, true, pos, ◌+ℤ◌, ◌≤ℤ◌, ◌<ℤ◌};
+ghost use Rattle.std.specs.Prelude.{◌≡◌, ◌≤◌, ◌<◌, true, false, pos, ◌+ℤ◌, MatchOption, IfOk, int_lt};
 ghost use Rattle.calendar.specs.Piles.{calendar as calendar_of};
-ghost use Rattle.date.specs.Days.{within};
 ghost use Rattle.reckoning.specs.Faith.{Faithful};
-ghost use Rattle.reckoning.specs.Held.{HoldsYear, HoldsMonth};
-ghost use Rattle.reckoning.specs.Reckoned.{reckoned as reckoned_by, misdated as misdated_by, has_year, month_days, dated_on, on, of};
-ghost use Rattle.reckoning.specs.Rules.{end as last_of};
+ghost use Rattle.reckoning.specs.Held.{HoldsYear, HoldsNth};
+ghost use Rattle.reckoning.specs.Reckoned.{reckoned as reckoned_by, misdated, place_in, has_year, has_day, on};
+ghost use Rattle.reckoning.specs.Rules.{InYears};
+ghost use Rattle.reckoning.specs.Years.{MonthsOf};
 ghost use Rattle.reckoning.specs.Faiths.{rule_lawful};
 
+use crate::months::Months;
 use crate::reckoning::Reckoning;
 use calendar::calendar::Calendar;
 use date::dates::Date;
-use date::days::in_range;
-use date::faults::{Cause, Fault};
+use date::days::Day;
+use date::faults::{Cause, Fault, Field};
 
 // A calendar that goes by a reckoning.
 #[derive(Clone, Copy)]
@@ -19,12 +20,22 @@ pub struct Reckoned<R> {
     by: R,
 }
 
-// The theorem of arithmetic calendars, at the rule of a reckoning.
-fn faithful_to<R: Reckoning>(by: R) -> Reckoned<R>
-    ensures same { result.by ≡ by }
-    ensures faithful { Faithful (R.Reckoning.rule by) }
+// The month that holds the nth day of the year: from a hint, back while it begins too late, and on while the next begins
+// in time.
+fn month_of<M: Months>(months: &M, nth: u16) -> u8
+    requires some { 1 ≤ M.months months.now }
+    requires begun { M.before months.now 1 < nth }
+    ensures { HoldsNth (M.months months.now) (M.before months.now) nth result }
 {
-    Reckoned { by }
+    let count = months.count();
+    let near = months.month_near(nth).clamp(1, count);
+    let month = (1..=near)
+        .rev()
+        .find(|&m| months.elapsed(m) < nth)
+        .unwrap_or(1);
+    (month..count)
+        .find(|&m| months.elapsed(m + 1) >= nth)
+        .unwrap_or(count)
 }
 
 impl<R: Reckoning> Reckoned<R> {
@@ -34,131 +45,95 @@ impl<R: Reckoning> Reckoned<R> {
         ensures same { result.by ≡ by }
         ensures faithful { Faithful (R.Reckoning.rule by) }
     {
-        faithful_to(by)
+        Reckoned { by }
     }
-}
 
-// The year that holds the day: from a hint, back while it begins too late, and on while the next begins in time.
-fn year_of<R: Reckoning>(r: &R, day: i32) -> i32
-    requires { (within day ≡ true) × (((R.rule r.now).start (R.rule r.now).first 1 <ℤ day) × (day ≤ℤ last_of (R.rule r.now))) }
-    ensures { HoldsYear (R.rule r.now) day result }
-{
-    let first = r.first();
-    let last = r.last();
-    let mut year = r.year_near(day).clamp(first, last);
-    'back: while year > first && r.new_year(year) >= day {
-        year -= 1;
+    fn has_year(&self, year: i32) -> bool
+        ensures { result ≡ has_year (R.rule self.now.by) year }
+    {
+        (R::FIRST..=R::LAST).contains(&year)
     }
-    'on: while year < last && r.new_year(year + 1) < day {
-        year += 1;
-    }
-    year
-}
 
-// The month that holds the nth day of the year, likewise.
-fn month_of<R: Reckoning>(r: &R, year: i32, nth: u16) -> u8
-    requires { HoldsYear (R.rule r.now) ((R.rule r.now).start year 1 +ℤ pos nth) year }
-    ensures { HoldsMonth (R.rule r.now) ((R.rule r.now).start year 1 +ℤ pos nth) year result }
-{
-    let months = r.months(year);
-    let mut month = r.month_near(year, nth).clamp(1, months);
-    'back: while month > 1 && r.elapsed(year, month) >= nth {
-        month -= 1;
+    // Whether the year begins before the day.
+    fn begins_before(&self, year: i32, day: i32) -> bool
+        requires { InYears (R.rule self.now.by) year }
+        ensures { result ≡ int_lt ((R.rule self.now.by).start year 1) day }
+    {
+        self.by.new_year(year) < day
     }
-    'on: while month < months && r.elapsed(year, month + 1) < nth {
-        month += 1;
-    }
-    month
-}
 
-// The date of a day that is in the years of the rule.
-fn find<R: Reckoning>(r: &R, day: i32) -> Result<Date, Fault>
-    requires { (within day ≡ true) × (((R.rule r.now).start (R.rule r.now).first 1 <ℤ day) × (day ≤ℤ last_of (R.rule r.now))) }
-    ensures { result ≡ dated_on (R.rule r.now) day }
-{
-    let year = year_of(r, day);
-    let nth = (day - r.new_year(year)) as u16;
-    let month = month_of(r, year, nth);
-    let of_month = nth - r.elapsed(year, month);
-    Date::new(0, i64::from(year), 0, i64::from(month), i64::from(of_month))
-}
+    // The year that holds the day, if one does: the last that begins before it. From a hint, back to one that does, and on
+    // to the last whose next does not.
+    fn year_of(&self, day: Day) -> Option<i32>
+        ensures { let r = R.rule self.now.by in
+            MatchOption result (has_day r day.number ≡ false) (λ y. HoldsYear r day.number y) }
+    {
+        let (first, last) = (R::FIRST, R::LAST);
+        let n = day.number();
+        if n > R::LAST_DAY {
+            return None;
+        }
+        let near = self.by.year_near(day).clamp(first, last);
+        let year = (first..=near).rev().find(|&y| self.begins_before(y, n))?;
+        Some(
+            (year..last)
+                .find(|&y| !self.begins_before(y + 1, n))
+                .unwrap_or(last),
+        )
+    }
 
-fn has_year<R: Reckoning>(r: &R, year: i32) -> bool
-    ensures { result ≡ has_year (R.rule r.now) year }
-{
-    r.first() <= year && year <= r.last()
-}
+    // The date of a day that the year holds.
+    fn date_in(&self, year: i32, day: Day) -> Result<Date, Fault>
+        requires { HoldsYear (R.rule self.now.by) day.number year }
+        ensures { result ≡ on (R.rule self.now.by) day.number }
+    {
+        let months = self.by.months(year);
+        let nth = (day.number() - self.by.new_year(year)) as u16;
+        let month = month_of(&months, nth);
+        let of_month = nth - months.elapsed(month);
+        Date::new(0, i64::from(year), 0, i64::from(month), i64::from(of_month))
+    }
 
-// The days of a month of the year, and none of a month that the year does not have.
-fn days_in<R: Reckoning>(r: &R, year: i32, month: u8) -> u8
-    requires { (has_year (R.rule r.now) year ≡ true) × (1 ≤ month) }
-    ensures { result ≡ month_days (R.rule r.now) year month }
-{
-    if month <= r.months(year) {
-        r.length(year, month)
-    } else {
-        0
+    // The months of the date's year, or the first field of the date that the rule does not have. A month of no days is
+    // none of the year's.
+    fn months_of(&self, date: &Date) -> Result<R::Months, Field>
+        ensures place { misdated (R.rule self.now.by) date.now ≡ place_in result }
+        ensures months { let r = R.rule self.now.by in
+            IfOk result (λ m. MonthsOf r date.now.year (R.Months.months m) (R.Months.length m) (R.Months.before m)) }
+    {
+        if date.era() != 0 {
+            return Err(Field::Era);
+        }
+        if !self.has_year(date.year()) {
+            return Err(Field::Year);
+        }
+        if date.mark() != 0 {
+            return Err(Field::Mark);
+        }
+        let months = self.by.months(date.year());
+        if date.month() > months.count() {
+            return Err(Field::Month);
+        }
+        let days = months.length(date.month());
+        if days == 0 {
+            return Err(Field::Month);
+        }
+        if date.day() > days {
+            return Err(Field::Day);
+        }
+        Ok(months)
     }
-}
 
-// The number of the first field of the date that the rule does not have, and 0 where it has them all.
-fn misdated<R: Reckoning>(r: &R, date: &Date) -> usize
-    ensures { result ≡ misdated_by (R.rule r.now) date.now }
-{
-    if date.era() != 0 {
-        return 1;
+    // The day of a date whose fields the rule has, by the months of its year.
+    fn day_in(&self, months: &R::Months, date: &Date) -> i32
+        requires fits { misdated (R.rule self.now.by) date.now ≡ 0 }
+        requires months { let m = months.now in
+            MonthsOf (R.rule self.now.by) date.now.year (R.Months.months m) (R.Months.length m) (R.Months.before m) }
+        ensures { result ≡ (R.rule self.now.by).start date.now.year date.now.month +ℤ pos date.now.day }
+    {
+        let before_month = i32::from(months.elapsed(date.month()));
+        self.by.new_year(date.year()) + before_month + i32::from(date.day())
     }
-    if !has_year(r, date.year()) {
-        return 2;
-    }
-    if date.mark() != 0 {
-        return 3;
-    }
-    let days = days_in(r, date.year(), date.month());
-    if days == 0 {
-        return 4;
-    }
-    if date.day() > days {
-        return 5;
-    }
-    0
-}
-
-// The day of a date whose fields the rule has.
-fn count<R: Reckoning>(r: &R, date: &Date) -> i32
-    requires { misdated_by (R.rule r.now) date.now ≡ 0 }
-    ensures { result ≡ (R.rule r.now).start date.now.year date.now.month +ℤ pos date.now.day }
-{
-    let year = date.year();
-    r.new_year(year) + i32::from(r.elapsed(year, date.month())) + i32::from(date.day())
-}
-
-// The date that a day carries by the rule.
-fn date_by<R: Reckoning>(r: &R, day: i32) -> Result<Date, Fault>
-    ensures { result ≡ on (R.rule r.now) day }
-{
-    if !in_range(day) {
-        return Err(Fault::new(Cause::OutsideRange, 0, 0, r.kind()));
-    }
-    if day <= r.new_year(r.first()) || day > r.last_day() {
-        return Err(Fault::new(Cause::NoDate, 0, 0, r.kind()));
-    }
-    find(r, day)
-}
-
-// The day that carries a date by the rule.
-fn day_by<R: Reckoning>(r: &R, date: Date) -> Result<i32, Fault>
-    ensures { result ≡ of (R.rule r.now) date }
-{
-    let place = misdated(r, &date);
-    if place > 0 {
-        return Err(Fault::new(Cause::Field, place, 0, r.kind()));
-    }
-    let day = count(r, &date);
-    if !in_range(day) {
-        return Err(Fault::new(Cause::OutsideRange, 0, day, r.kind()));
-    }
-    Ok(day)
 }
 
 impl<R: Reckoning> Calendar for Reckoned<R> {
@@ -166,11 +141,22 @@ impl<R: Reckoning> Calendar for Reckoned<R> {
 
     ghost sound = { λ c. rule_lawful _ (R.Reckoning.sound c.by) };
 
+    #[tactic(auto, unfolding(crate::specs::Reckoned::on))]
     fn date_on(&self, day: i32) -> Result<Date, Fault> {
-        date_by(&self.by, day)
+        let day = Day::new(day).ok_or(Fault::plain(Cause::OutsideRange, R::KIND))?;
+        let year = self
+            .year_of(day)
+            .ok_or(Fault::plain(Cause::NoDate, R::KIND))?;
+        self.date_in(year, day)
     }
 
+    #[tactic(auto, unfolding(crate::specs::Reckoned::of))]
     fn day_of(&self, date: Date) -> Result<i32, Fault> {
-        day_by(&self.by, date)
+        let months = self
+            .months_of(&date)
+            .map_err(|field| Fault::misfit(field, R::KIND))?;
+        let day = self.day_in(&months, &date);
+        Day::new(day).ok_or(Fault::new(Cause::OutsideRange, 0, day, R::KIND))?;
+        Ok(day)
     }
 }

@@ -1,51 +1,46 @@
-ghost use Rattle.std.specs.Prelude.{◌≡◌, ◌≤◌, true, pos, ◌+ℤ◌};
-ghost use Rattle.date.specs.Days.{within};
-ghost use Rattle.reckoning.specs.Rules.{Rule, Sound, InYears, InMonths};
-ghost use Rattle.reckoning.specs.Rules.{last_year, end as last_of};
+ghost use Rattle.std.specs.Prelude.{◌≡◌, ℤ};
+ghost use Rattle.reckoning.specs.Rules.{Rule, Sound, InYears};
+ghost use Rattle.reckoning.specs.Years.{Bounds, MonthsOf};
 
-// A calendar that goes by a rule: which years it has, how many months a year and how many days a month, and on which day
-// each month starts. Only the conversion asks these, after it has tested that the year and the month are the rule's.
-pub trait Reckoning {
-    ghost rule: { Self → Rule };
+use crate::months::Months;
+use calendar::calendar::Kind;
+use date::days::Day;
 
-    fn kind(&self) -> u8
-        ensures { result ≡ (rule self.now).kind };
+// A calendar that goes by a rule: which years it has, on which day each begins, and which months it has. Only the
+// conversion asks for a year, after it has tested that the year is the rule's.
+pub trait Reckoning: Kind {
+    type Months: Months;
 
     // The first year, and the last.
-    fn first(&self) -> i32
-        ensures { result ≡ (rule self.now).first };
+    const FIRST: i32;
 
-    fn last(&self) -> i32
-        ensures { result ≡ last_year (rule self.now) };
+    const LAST: i32;
 
     // The last day of the last year.
-    fn last_day(&self) -> i32
-        ensures { result ≡ last_of (rule self.now) };
+    const LAST_DAY: i32;
 
-    fn months(&self, year: i32) -> u8
+    ghost FIRST: { ℤ };
+
+    ghost LAST: { ℤ };
+
+    ghost LAST_DAY: { ℤ };
+
+    ghost rule: { Self → Rule };
+
+    // The months of the year.
+    fn months(&self, year: i32) -> Self::Months
         requires { InYears (rule self.now) year }
-        ensures { result ≡ (rule self.now).months year };
-
-    fn length(&self, year: i32, month: u8) -> u8
-        requires { (InYears (rule self.now) year) × (InMonths (rule self.now) year month) }
-        ensures { result ≡ (rule self.now).length year month };
+        ensures { MonthsOf (rule self.now) year (Self.Months.months result) (Self.Months.length result) (Self.Months.before result) };
 
     // The day before the first of the year.
     fn new_year(&self, year: i32) -> i32
         requires { InYears (rule self.now) year }
         ensures { result ≡ (rule self.now).start year 1 };
 
-    // The days of the year before the month.
-    fn elapsed(&self, year: i32, month: u8) -> u16
-        requires { (InYears (rule self.now) year) × (InMonths (rule self.now) year month) }
-        ensures { (rule self.now).start year month ≡ (rule self.now).start year 1 +ℤ pos result };
-
     // A year near that of the day: where the corrections begin. No answer depends on it.
-    fn year_near(&self, day: i32) -> i32
-        requires { within day ≡ true };
-
-    // A month near that of the day that is the nth of the year, likewise.
-    fn month_near(&self, year: i32, nth: u16) -> u8;
+    fn year_near(&self, day: Day) -> i32;
 
     ghost sound: { (c : Self) → Sound (rule c) };
+
+    ghost bounds: { (c : Self) → Bounds (rule c) Self.KIND FIRST LAST LAST_DAY };
 }

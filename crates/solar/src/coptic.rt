@@ -1,86 +1,60 @@
-ghost use Rattle.std.specs.Prelude.{◌≡◌, pos, ◌≤ℤ◌};
-ghost use Rattle.reckoning.specs.Rules.{end as last_of};
-ghost use Rattle.solar.specs.Coptic.{leap, before_year, coptic as coptic_rule};
+ghost use Rattle.std.specs.Prelude.{refl};
+ghost use Rattle.reckoning.specs.Rules.{last_year, end};
+ghost use Rattle.solar.specs.Coptic.{coptic};
 ghost use Rattle.solar.specs.CopticYears.{coptic_sound};
 
-use crate::{thirty, years};
+use crate::thirty::Thirty;
 use calendar::calendar::Kind;
+use date::days::Day;
 use date::division::divide;
 use reckoning::reckoning::Reckoning;
+use reckoning::years::{self, Year};
 
 #[derive(Clone, Copy)]
 pub struct Coptic;
 
 impl Kind for Coptic {
     const KIND: u8 = 3;
+
+    ghost KIND = { coptic.kind };
 }
 
-// Every fourth year, from the third.
-fn is_leap(year: i32) -> bool
-    requires { pos 0 ≤ℤ year }
-    ensures { result ≡ leap year }
-{
-    divide(year as u64, 4).1 == 3
-}
-
-// The days before the year.
-fn days_before(year: i32) -> i32
-    requires { (pos 1 ≤ℤ year) × (year ≤ℤ pos 99999) }
-    ensures { result ≡ before_year year }
-{
-    let years = year as u64;
-    (103_604 + 365 * (years - 1) + divide(years, 4).0) as i32
-}
-
-// The last day of the last year.
-fn end() -> i32
-    ensures { result ≡ last_of coptic_rule }
-{
-    36_628_239
-}
-
+#[tactic(auto, unfolding(crate::specs::Coptic::leap, crate::specs::Coptic::before_year))]
 impl Reckoning for Coptic {
-    ghost rule = { λ _. coptic_rule };
+    type Months = Thirty;
 
-    ghost sound = { λ c. coptic_sound };
+    const FIRST: i32 = years::FIRST;
 
-    fn kind(&self) -> u8 {
-        Coptic::KIND
-    }
+    const LAST: i32 = years::LAST;
 
-    fn first(&self) -> i32 {
-        years::FIRST
-    }
+    const LAST_DAY: i32 = 36_628_239;
 
-    fn last(&self) -> i32 {
-        years::LAST
-    }
+    ghost FIRST = { coptic.first };
 
-    fn last_day(&self) -> i32 {
-        end()
-    }
+    ghost LAST = { last_year coptic };
 
-    fn months(&self, year: i32) -> u8 {
-        thirty::MONTHS
-    }
+    ghost LAST_DAY = { end coptic };
 
-    fn length(&self, year: i32, month: u8) -> u8 {
-        thirty::days_in(is_leap(year), month)
+    ghost rule = { λ _. coptic };
+
+    ghost sound = { λ _. coptic_sound };
+
+    ghost bounds = { λ _. record { kind = refl; first = refl; last = refl; last_day = refl } };
+
+    // Every fourth year is leap, from the third.
+    fn months(&self, year: i32) -> Thirty {
+        let number = u64::from(Year::new(year).number());
+        let leap = divide(number, 4).1 == 3;
+        Thirty { leap }
     }
 
     fn new_year(&self, year: i32) -> i32 {
-        days_before(year)
+        let year = Year::new(year);
+        let fourths = divide(u64::from(year.number()), 4).0;
+        (103_604 + 365 * u64::from(year.before()) + fourths) as i32
     }
 
-    fn elapsed(&self, year: i32, month: u8) -> u16 {
-        thirty::days_before(month)
-    }
-
-    fn year_near(&self, day: i32) -> i32 {
-        divide(4 * day as u64 + 506, 1_461).0 as i32 - 283
-    }
-
-    fn month_near(&self, year: i32, nth: u16) -> u8 {
-        thirty::month_near(nth)
+    fn year_near(&self, day: Day) -> i32 {
+        divide(4 * day.number() as u64 + 506, 1_461).0 as i32 - 283
     }
 }

@@ -1,86 +1,61 @@
-ghost use Rattle.std.specs.Prelude.{◌≡◌, pos, ◌≤ℤ◌};
-ghost use Rattle.reckoning.specs.Rules.{end as last_of};
-ghost use Rattle.solar.specs.French.{leap, before_year, french as french_rule};
+ghost use Rattle.std.specs.Prelude.{refl};
+ghost use Rattle.reckoning.specs.Rules.{last_year, end};
+ghost use Rattle.solar.specs.French.{french};
 ghost use Rattle.solar.specs.FrenchYears.{french_sound};
 
-use crate::{gregorian, thirty, years};
+use crate::gregorian;
+use crate::thirty::Thirty;
 use calendar::calendar::Kind;
+use date::days::Day;
 use date::division::divide;
 use reckoning::reckoning::Reckoning;
+use reckoning::years::{self, Year};
 
 #[derive(Clone, Copy)]
 pub struct French;
 
 impl Kind for French {
     const KIND: u8 = 6;
+
+    ghost KIND = { french.kind };
 }
 
-// The Gregorian leap years, but not every 4,000th year.
-fn is_leap(year: i32) -> bool
-    requires { pos 0 ≤ℤ year }
-    ensures { result ≡ leap year }
-{
-    gregorian::is_leap(year) && divide(year as u64, 4_000).1 != 0
-}
-
-// The days before the year.
-fn days_before(year: i32) -> i32
-    requires { (pos 1 ≤ℤ year) × (year ≤ℤ pos 99999) }
-    ensures { result ≡ before_year year }
-{
-    let cycles = divide((year - 1) as u64, 4_000).0;
-    654_414 + gregorian::days_before(year) - cycles as i32
-}
-
-// The last day of the last year.
-fn end() -> i32
-    ensures { result ≡ last_of french_rule }
-{
-    37_178_274
-}
-
+#[tactic(auto, unfolding(crate::specs::French::leap, crate::specs::French::before_year, crate::specs::Gregorian::before_year))]
 impl Reckoning for French {
-    ghost rule = { λ _. french_rule };
+    type Months = Thirty;
 
-    ghost sound = { λ c. french_sound };
+    const FIRST: i32 = years::FIRST;
 
-    fn kind(&self) -> u8 {
-        French::KIND
-    }
+    const LAST: i32 = years::LAST;
 
-    fn first(&self) -> i32 {
-        years::FIRST
-    }
+    const LAST_DAY: i32 = 37_178_274;
 
-    fn last(&self) -> i32 {
-        years::LAST
-    }
+    ghost FIRST = { french.first };
 
-    fn last_day(&self) -> i32 {
-        end()
-    }
+    ghost LAST = { last_year french };
 
-    fn months(&self, year: i32) -> u8 {
-        thirty::MONTHS
-    }
+    ghost LAST_DAY = { end french };
 
-    fn length(&self, year: i32, month: u8) -> u8 {
-        thirty::days_in(is_leap(year), month)
+    ghost rule = { λ _. french };
+
+    ghost sound = { λ _. french_sound };
+
+    ghost bounds = { λ _. record { kind = refl; first = refl; last = refl; last_day = refl } };
+
+    // The Gregorian leap years are leap, but not every 4,000th year.
+    fn months(&self, year: i32) -> Thirty {
+        let this = Year::new(year);
+        let leap = gregorian::is_leap(this) && divide(u64::from(this.number()), 4_000).1 != 0;
+        Thirty { leap }
     }
 
     fn new_year(&self, year: i32) -> i32 {
-        days_before(year)
+        let year = Year::new(year);
+        let cycles = divide(u64::from(year.before()), 4_000).0;
+        654_414 + gregorian::days_before(year) - cycles as i32
     }
 
-    fn elapsed(&self, year: i32, month: u8) -> u16 {
-        thirty::days_before(month)
-    }
-
-    fn year_near(&self, day: i32) -> i32 {
-        divide(4_000 * (day as u64 + 100), 1_460_969).0 as i32 - 1_791
-    }
-
-    fn month_near(&self, year: i32, nth: u16) -> u8 {
-        thirty::month_near(nth)
+    fn year_near(&self, day: Day) -> i32 {
+        divide(4_000 * (day.number() as u64 + 100), 1_460_969).0 as i32 - 1_791
     }
 }

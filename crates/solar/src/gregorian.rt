@@ -1,98 +1,79 @@
-ghost use Rattle.std.specs.Prelude.{◌≡◌, true, pos, negsuc, ◌≤ℤ◌};
-ghost use Rattle.date.specs.Days.{within};
-ghost use Rattle.reckoning.specs.Rules.{end as last_of};
-ghost use Rattle.solar.specs.Gregorian.{leap, before_year, gregorian as gregorian_rule};
+ghost use Rattle.std.specs.Prelude.{◌≡◌, refl, pos};
+ghost use Rattle.reckoning.specs.Rules.{last_year, end};
+ghost use Rattle.solar.specs.Gregorian.{leap, before_year, gregorian};
 ghost use Rattle.solar.specs.GregorianYears.{gregorian_sound};
 
-use crate::{civil, years};
+use crate::civil::Civil;
 use calendar::calendar::Kind;
+use date::days::Day;
 use date::division::divide;
 use reckoning::reckoning::Reckoning;
+use reckoning::years::{self, Year};
 
 #[derive(Clone, Copy)]
 pub struct Gregorian;
 
 impl Kind for Gregorian {
     const KIND: u8 = 1;
+
+    ghost KIND = { gregorian.kind };
 }
 
 // Every fourth year, but of the centuries every fourth.
-pub(crate) fn is_leap(year: i32) -> bool
-    requires { pos 0 ≤ℤ year }
-    ensures { result ≡ leap year }
+#[tactic(auto, unfolding(crate::specs::Gregorian::leap))]
+pub(crate) fn is_leap(year: Year) -> bool
+    ensures { result ≡ leap (pos year.number) }
 {
-    let year = year as u64;
+    let year = u64::from(year.number());
     divide(year, 4).1 == 0 && (divide(year, 100).1 != 0 || divide(year, 400).1 == 0)
 }
 
 // The days before the year.
-pub(crate) fn days_before(year: i32) -> i32
-    requires { (pos 1 ≤ℤ year) × (year ≤ℤ pos 100000) }
-    ensures { result ≡ before_year year }
+#[tactic(auto, unfolding(crate::specs::Gregorian::before_year))]
+pub(crate) fn days_before(year: Year) -> i32
+    ensures { result ≡ before_year (pos year.number) }
 {
-    let years = (year - 1) as u64;
+    let years = u64::from(year.before());
     let fourths = divide(years, 4).0;
     let centuries = divide(years, 100).0;
     let cycles = divide(years, 400).0;
     (365 * years + fourths + cycles - centuries) as i32
 }
 
-// The last day of the last year.
-fn end() -> i32
-    ensures { result ≡ last_of gregorian_rule }
-{
-    36_523_884
-}
-
-// A year near that of the day: it needs one correction at most.
-pub(crate) fn year_near(day: i32) -> i32
-    requires { within day ≡ true }
-{
-    (divide(400 * day as u64, 146_097).0 + 1) as i32
-}
-
+#[tactic(auto, unfolding(crate::specs::Gregorian::before_year))]
 impl Reckoning for Gregorian {
-    ghost rule = { λ _. gregorian_rule };
+    type Months = Civil;
 
-    ghost sound = { λ c. gregorian_sound };
+    const FIRST: i32 = years::FIRST;
 
-    fn kind(&self) -> u8 {
-        Gregorian::KIND
-    }
+    const LAST: i32 = years::LAST;
 
-    fn first(&self) -> i32 {
-        years::FIRST
-    }
+    const LAST_DAY: i32 = 36_523_884;
 
-    fn last(&self) -> i32 {
-        years::LAST
-    }
+    ghost FIRST = { gregorian.first };
 
-    fn last_day(&self) -> i32 {
-        end()
-    }
+    ghost LAST = { last_year gregorian };
 
-    fn months(&self, year: i32) -> u8 {
-        civil::MONTHS
-    }
+    ghost LAST_DAY = { end gregorian };
 
-    fn length(&self, year: i32, month: u8) -> u8 {
-        civil::days_in(is_leap(year), month)
+    ghost rule = { λ _. gregorian };
+
+    ghost sound = { λ _. gregorian_sound };
+
+    ghost bounds = { λ _. record { kind = refl; first = refl; last = refl; last_day = refl } };
+
+    fn months(&self, year: i32) -> Civil {
+        Civil {
+            leap: is_leap(Year::new(year)),
+        }
     }
 
     fn new_year(&self, year: i32) -> i32 {
-        days_before(year)
+        days_before(Year::new(year))
     }
 
-    fn elapsed(&self, year: i32, month: u8) -> u16 {
-        civil::days_before(is_leap(year), month)
-    }
-
-    fn year_near(&self, day: i32) -> i32 {
-        year_near(day)
-    }
-
-    fn month_near(&self, year: i32, nth: u16) -> u8 {
-        civil::month_near(nth)
+    // It needs one correction at most.
+    fn year_near(&self, day: Day) -> i32 {
+        (divide(400 * day.number() as u64, 146_097).0 + 1) as i32
     }
 }

@@ -1,86 +1,60 @@
-ghost use Rattle.std.specs.Prelude.{◌≡◌, pos, negsuc, ◌≤ℤ◌};
-ghost use Rattle.reckoning.specs.Rules.{end as last_of};
-ghost use Rattle.solar.specs.Julian.{leap, before_year, julian as julian_rule};
+ghost use Rattle.std.specs.Prelude.{refl};
+ghost use Rattle.reckoning.specs.Rules.{last_year, end};
+ghost use Rattle.solar.specs.Julian.{julian};
 ghost use Rattle.solar.specs.JulianYears.{julian_sound};
 
-use crate::{civil, years};
+use crate::civil::Civil;
 use calendar::calendar::Kind;
+use date::days::Day;
 use date::division::divide;
 use reckoning::reckoning::Reckoning;
+use reckoning::years::{self, Year};
 
 #[derive(Clone, Copy)]
 pub struct Julian;
 
 impl Kind for Julian {
     const KIND: u8 = 2;
+
+    ghost KIND = { julian.kind };
 }
 
-// Every fourth year.
-fn is_leap(year: i32) -> bool
-    requires { pos 0 ≤ℤ year }
-    ensures { result ≡ leap year }
-{
-    divide(year as u64, 4).1 == 0
-}
-
-// The days before the year: its first starts two days before the Gregorian.
-fn days_before(year: i32) -> i32
-    requires { (pos 1 ≤ℤ year) × (year ≤ℤ pos 99999) }
-    ensures { result ≡ before_year year }
-{
-    let years = (year - 1) as u64;
-    (365 * years + divide(years, 4).0) as i32 - 2
-}
-
-// The last day of the last year.
-fn end() -> i32
-    ensures { result ≡ last_of julian_rule }
-{
-    36_524_632
-}
-
+#[tactic(auto, unfolding(crate::specs::Julian::leap, crate::specs::Julian::before_year))]
 impl Reckoning for Julian {
-    ghost rule = { λ _. julian_rule };
+    type Months = Civil;
 
-    ghost sound = { λ c. julian_sound };
+    const FIRST: i32 = years::FIRST;
 
-    fn kind(&self) -> u8 {
-        Julian::KIND
+    const LAST: i32 = years::LAST;
+
+    const LAST_DAY: i32 = 36_524_632;
+
+    ghost FIRST = { julian.first };
+
+    ghost LAST = { last_year julian };
+
+    ghost LAST_DAY = { end julian };
+
+    ghost rule = { λ _. julian };
+
+    ghost sound = { λ _. julian_sound };
+
+    ghost bounds = { λ _. record { kind = refl; first = refl; last = refl; last_day = refl } };
+
+    // Every fourth year is leap.
+    fn months(&self, year: i32) -> Civil {
+        let number = u64::from(Year::new(year).number());
+        let leap = divide(number, 4).1 == 0;
+        Civil { leap }
     }
 
-    fn first(&self) -> i32 {
-        years::FIRST
-    }
-
-    fn last(&self) -> i32 {
-        years::LAST
-    }
-
-    fn last_day(&self) -> i32 {
-        end()
-    }
-
-    fn months(&self, year: i32) -> u8 {
-        civil::MONTHS
-    }
-
-    fn length(&self, year: i32, month: u8) -> u8 {
-        civil::days_in(is_leap(year), month)
-    }
-
+    // The first year starts two days before the Gregorian.
     fn new_year(&self, year: i32) -> i32 {
-        days_before(year)
+        let years = u64::from(Year::new(year).before());
+        (365 * years + divide(years, 4).0) as i32 - 2
     }
 
-    fn elapsed(&self, year: i32, month: u8) -> u16 {
-        civil::days_before(is_leap(year), month)
-    }
-
-    fn year_near(&self, day: i32) -> i32 {
-        (divide(4 * (day as u64 + 2), 1_461).0 + 1) as i32
-    }
-
-    fn month_near(&self, year: i32, nth: u16) -> u8 {
-        civil::month_near(nth)
+    fn year_near(&self, day: Day) -> i32 {
+        (divide(4 * (day.number() as u64 + 2), 1_461).0 + 1) as i32
     }
 }

@@ -7,4 +7,3 @@ pub mod gregorian;
 pub mod iso;
 pub mod julian;
 mod thirty;
-mod years;

@@ -28,26 +28,18 @@ fn read_date(word: &str) -> Option<Date> {
 }
 
 // Whether the calendar has the date on the day and the day of the date, or rightly neither.
-fn agrees<C: Calendar>(calendar: &C, day: i32, word: &str) -> bool {
-    let Some(date) = read_date(word) else {
-        return match calendar.date_on(day) {
-            Ok(_) => false,
-            Err(fault) => word.len() == 1 && fault.cause == Cause::NoDate,
-        };
-    };
-    let found = match calendar.date_on(day) {
-        Ok(other) => other == date,
-        Err(_) => false,
-    };
-    let back = match calendar.day_of(date) {
-        Ok(other) => other == day,
-        Err(_) => false,
-    };
-    found && back
+fn agrees(calendar: &dyn Calendar, day: i32, word: &str) -> bool {
+    match read_date(word) {
+        Some(date) => calendar.date_on(day) == Ok(date) && calendar.day_of(date) == Ok(day),
+        None => {
+            let refused = calendar.date_on(day).err().map(|fault| fault.cause);
+            word.len() == 1 && refused == Some(Cause::NoDate)
+        },
+    }
 }
 
 // How many days of the table agree with one calendar, and how many were seen.
-#[derive(Clone, Copy)]
+#[derive(Clone, Copy, Default)]
 struct Tally {
     agree: u32,
     days: u32,
@@ -62,74 +54,36 @@ impl Tally {
     }
 }
 
-const NONE: Tally = Tally { agree: 0, days: 0 };
-
-// The tallies of the seven calendars, in the order of the table.
-#[derive(Clone, Copy)]
-struct Tallies {
-    gregorian: Tally,
-    julian: Tally,
-    coptic: Tally,
-    islamic: Tally,
-    hebrew: Tally,
-    french: Tally,
-    iso: Tally,
-}
-
-impl Tallies {
-    // Notes one line of the table; says whether it was one.
-    fn note(&mut self, line: &str) -> Option<()> {
-        let mut words = line.split(' ');
-        let day = words.next()?.parse::<i32>().ok()?;
-        self.gregorian
-            .note(agrees(&Reckoned::new(Gregorian), day, words.next()?));
-        self.julian
-            .note(agrees(&Reckoned::new(Julian), day, words.next()?));
-        self.coptic
-            .note(agrees(&Reckoned::new(Coptic), day, words.next()?));
-        self.islamic
-            .note(agrees(&Reckoned::new(Islamic), day, words.next()?));
-        self.hebrew
-            .note(agrees(&Reckoned::new(Hebrew), day, words.next()?));
-        self.french
-            .note(agrees(&Reckoned::new(French), day, words.next()?));
-        self.iso
-            .note(agrees(&Reckoned::new(Iso), day, words.next()?));
-        Some(())
+// Notes one line of the table, which has a word for each calendar; says whether it was one.
+fn note(calendars: &[(&str, &dyn Calendar)], tallies: &mut [Tally], line: &str) -> Option<()> {
+    let mut words = line.split(' ');
+    let day = words.next()?.parse::<i32>().ok()?;
+    for ((_, calendar), tally) in calendars.iter().zip(tallies) {
+        tally.note(agrees(*calendar, day, words.next()?));
     }
-}
-
-fn print(rt: &impl Print, name: &str, tally: Tally) -> io::Result<()> {
-    let agree = tally.agree;
-    let days = tally.days;
-    println!(rt; "{name}: {agree} of {days} days agree")
-}
-
-fn print_all(rt: &impl Print, tallies: Tallies) -> io::Result<()> {
-    print(rt, "Gregorian", tallies.gregorian)?;
-    print(rt, "Julian", tallies.julian)?;
-    print(rt, "Coptic", tallies.coptic)?;
-    print(rt, "Islamic civil", tallies.islamic)?;
-    print(rt, "Hebrew", tallies.hebrew)?;
-    print(rt, "French arithmetic", tallies.french)?;
-    print(rt, "ISO week", tallies.iso)
+    Some(())
 }
 
 fn main(rt: HostRuntime) -> io::Result<()> {
-    let mut tallies = Tallies {
-        gregorian: NONE,
-        julian: NONE,
-        coptic: NONE,
-        islamic: NONE,
-        hebrew: NONE,
-        french: NONE,
-        iso: NONE,
-    };
+    let calendars: [(&str, &dyn Calendar); 7] = [
+        ("Gregorian", &Reckoned::new(Gregorian)),
+        ("Julian", &Reckoned::new(Julian)),
+        ("Coptic", &Reckoned::new(Coptic)),
+        ("Islamic civil", &Reckoned::new(Islamic)),
+        ("Hebrew", &Reckoned::new(Hebrew)),
+        ("French arithmetic", &Reckoned::new(French)),
+        ("ISO week", &Reckoned::new(Iso)),
+    ];
+    let mut tallies = [Tally::default(); 7];
     for line in BufReader::new(rt.alloc(), rt.stdin())?.lines(rt.alloc()) {
         let line = line?;
-        if let None = tallies.note(line.as_str()) {
+        if note(&calendars, &mut tallies, line.as_str()).is_none() {
             println!(rt; "no line of the table: {line}")?;
         }
     }
-    print_all(&rt, tallies)
+    for ((name, _), tally) in calendars.iter().zip(tallies) {
+        let Tally { agree, days } = tally;
+        println!(rt; "{name}: {agree} of {days} days agree")?;
+    }
+    Ok(())
 }

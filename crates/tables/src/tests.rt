@@ -1,5 +1,5 @@
 use calendar::calendar::Calendar;
-use calendar::carrying::{carry, span};
+use carrying::carry::{carry, span};
 use date::dates::Date;
 use date::days::weekday;
 use date::faults::{Cause, Fault};
@@ -12,10 +12,7 @@ use std::test::Fail;
 // The field at which five numbers are refused, and 0 where they make a date.
 fn misfit(numbers: (i64, i64, i64, i64, i64)) -> usize {
     let (era, year, mark, month, day) = numbers;
-    match Date::new(era, year, mark, month, day) {
-        Ok(_) => 0,
-        Err(fault) => fault.place,
-    }
+    Date::new(era, year, mark, month, day).map_or_else(|fault| fault.place, |_| 0)
 }
 
 // The day of a date without era and mark, or the refusal.
@@ -25,13 +22,7 @@ fn day_of<C: Calendar>(calendar: &C, year: i64, month: i64, day: i64) -> Result<
 
 // A refusal as it is first given.
 fn refused(cause: Cause, place: usize, day: i32, kind: u8) -> Result<i32, Fault> {
-    Err(Fault {
-        cause,
-        place,
-        day,
-        kind,
-        level: 0,
-    })
+    Err(Fault::new(cause, place, day, kind))
 }
 
 #[test]
@@ -113,13 +104,7 @@ fn weekdays(rt: HostRuntime) {
     assert_eq!(rt; weekday(1), Ok(1));
     assert_eq!(rt; weekday(639_797), Ok(4));
     assert_eq!(rt; weekday(3_652_059), Ok(5));
-    let outside = Fault {
-        cause: Cause::OutsideRange,
-        place: 0,
-        day: 0,
-        kind: 0,
-        level: 0,
-    };
+    let outside = Fault::plain(Cause::OutsideRange, 0);
     assert_eq!(rt; weekday(0), Err(outside));
     assert_eq!(rt; weekday(3_652_060), Err(outside));
 }
@@ -151,12 +136,10 @@ fn carried_and_spanned(rt: HostRuntime) -> Result<(), Fail> {
 
 #[test]
 fn levels_stop_at_255(rt: HostRuntime) {
+    let first = Fault::plain(Cause::NoDate, 1);
     let high = Fault {
-        cause: Cause::NoDate,
-        place: 0,
-        day: 0,
-        kind: 1,
         level: 254,
+        ..first
     };
     let answer: Result<i32, Fault> = hand_on(hand_on(Err(high)));
     assert_eq!(rt; answer, Err(Fault { level: 255, ..high }));

@@ -1,9 +1,10 @@
-ghost use Rattle.std.specs.Prelude.{◌≡◌};
+ghost use Rattle.std.specs.Prelude.{◌≡◌, pos};
 ghost use Rattle.date.specs.Dated.{dated};
-ghost use Rattle.date.specs.Fields.{between, misfit};
+ghost use Rattle.date.specs.Fields.{between};
+ghost use Rattle.date.specs.Misfits.{first_misfit};
 
 use crate::dates::Date;
-use crate::faults::{Cause, Fault};
+use crate::faults::{Fault, Field};
 
 // The ranges of a date's numbers.
 pub const ERA_TO: i64 = 255;
@@ -21,25 +22,25 @@ pub const DAY_TO: i64 = 63;
 fn is_between(from: i64, to: i64, n: i64) -> bool
     ensures { result ≡ between from to n }
 {
-    from <= n && n <= to
+    (from..=to).contains(&n)
 }
 
-// The number, from 1, of the first that is out of its range, and 0 where none is.
-fn first_misfit(era: i64, year: i64, mark: i64, month: i64, day: i64) -> usize
-    ensures { result ≡ misfit era year mark month day }
+// The first field whose number is out of its range.
+fn first_misfit(era: i64, year: i64, mark: i64, month: i64, day: i64) -> Option<Field>
+    ensures { result ≡ first_misfit era year mark month day }
 {
     if !is_between(0, ERA_TO, era) {
-        1
+        Some(Field::Era)
     } else if !is_between(YEAR_FROM, YEAR_TO, year) {
-        2
+        Some(Field::Year)
     } else if !is_between(0, MARK_TO, mark) {
-        3
+        Some(Field::Mark)
     } else if !is_between(1, MONTH_TO, month) {
-        4
+        Some(Field::Month)
     } else if !is_between(1, DAY_TO, day) {
-        5
+        Some(Field::Day)
     } else {
-        0
+        None
     }
 }
 
@@ -47,9 +48,8 @@ fn first_misfit(era: i64, year: i64, mark: i64, month: i64, day: i64) -> usize
 fn make(era: i64, year: i64, mark: i64, month: i64, day: i64) -> Result<Date, Fault>
     ensures { result ≡ dated era year mark month day }
 {
-    let place = first_misfit(era, year, mark, month, day);
-    if place > 0 {
-        return Err(Fault::new(Cause::Field, place, 0, 0));
+    if let Some(field) = first_misfit(era, year, mark, month, day) {
+        return Err(Fault::misfit(field, 0));
     }
     Ok(Date {
         era: era as u8,
@@ -66,6 +66,13 @@ impl Date {
         ensures { result ≡ dated era year mark month day }
     {
         make(era, year, mark, month, day)
+    }
+
+    // The date with another era, year and mark, and the same month and day of the month.
+    pub fn with(&self, era: i64, year: i64, mark: i64) -> Result<Date, Fault>
+        ensures { result ≡ dated era year mark (pos self.now.month) (pos self.now.day) }
+    {
+        Date::new(era, year, mark, i64::from(self.month), i64::from(self.day))
     }
 
     pub fn era(&self) -> u8

@@ -1,33 +1,22 @@
-use Rattle.std.proofs.Common.{arith}
-use Rattle.std.proofs.lemmas.Int.{ints, to_z-of_z}
-use Rattle.reckoning.proofs.Steps.{clamped, month_next, month_last}
+use Rattle.std.proofs.Common.{IfSome, Option, Some, None, unwrap_or, ◌≡◌, ℕ, rules, tests, sym, subst, ◌≤◌, ◌<◌, ◌+◌, ◌-◌}
+use Rattle.std.proofs.iter.runs.Sources.{ranges}
+use Rattle.std.proofs.lemmas.Iterator.{first_from_Range}
+use Rattle.std.specs.Iterator.Adapters.{rev_steps}
+use Rattle.std.specs.Range.{range_inclusive_steps_back}
+use Rattle.reckoning.specs.Held.{HoldsNth}
+use Rattle.reckoning.proofs.Ranges.{passes}
+use Rattle.reckoning.proofs.Steps.{nth_held}
 use Rattle.reckoning.proofs.reckoned.month_of.Goals as goal
 
-pub clamp-month-requires : goal.clamp-month-requires
-clamp-month-requires g c =
-    let fy = c.ranges.year in
-    let count = simp to_z-of_z at c.months-months.ensures in
-    omega (arith, (g.met.R.Reckoning.sound c.args.r.now).some_months _ c.requires.years)
+or_first : (before : ℕ → ℕ) (n x : ℕ) (o : Option ℕ) → x ≡ unwrap_or o 1 → before 1 < n → IfSome o (λ m. before m < n) → before x < n
+or_first before n x None e l h = subst (λ m. before m < n) (sym e) l
+or_first before n x (Some m) e l h = subst (λ m. before m < n) (sym e) h
 
-pub back-init : goal.back-init
-back-init g c =
-    let fy = c.ranges.year in
-    let some = (g.met.R.Reckoning.sound c.args.r.now).some_months _ c.requires.years in
-    let count = simp to_z-of_z at c.months-months.ensures in
-    let k = clamped c.months-months.result c.month_near.result c.clamp-month.result (omega arith) c.clamp-month.ensures in
-    simp to_z-of_z (record { from = k.0; to = omega arith })
-
-pub returns-else-elapsed-nth-2 : goal.returns-else-elapsed-nth-2
-returns-else-elapsed-nth-2 g c =
-    let fy = c.ranges.year in
-    let count = simp to_z-of_z at c.months-months.ensures in
-    let inv = simp to_z-of_z at c.on.invariant in
-    let next = simp to_z-of_z at c.elapsed-in-on.ensures in
-    month_next _ (g.met.R.Reckoning.sound c.args.r.now) _ _ _ c.requires inv.0 inv.1 (omega arith) (omega (arith, ints))
-
-pub returns-after-on : goal.returns-after-on
-returns-after-on g c =
-    let fy = c.ranges.year in
-    let count = simp to_z-of_z at c.months-months.ensures in
-    let inv = simp to_z-of_z at c.on.invariant in
-    month_last _ (g.met.R.Reckoning.sound c.args.r.now) _ _ _ c.requires inv.0 inv.1 (omega arith)
+pub returns : goal.returns
+returns g c =
+    let before = g.M.Months.before c.args.months.now in
+    let n = c.args.nth in
+    let down = passes (rev_steps (range_inclusive_steps_back (λ x y. y - x) (λ x y. y ≡ x + 1))) _ c.find.new.self _ c.find.result (λ m. before m < n) c.find.ensures.ran (λ x q k. search (rules, tests)) (λ x q k. search (rules, tests)) in
+    let up = first_from_Range _ c.find-2.new.self _ c.find-2.result (λ m. n ≤ before (m + 1)) (λ m. before (m + 1) < n) c.find-2.ensures.ran (λ x q k. search (rules, tests)) (λ x q k. (search (rules, tests), search (rules, tests))) in
+    let l = or_first before n _ c.find.result c.unwrap_or-month.ensures c.requires.begun down in
+    subst (λ z. HoldsNth z before n c.unwrap_or.result) c.count-count.ensures (nth_held before n _ _ _ c.find-2.result (search (rules, ranges)) (search (rules, ranges)) l c.unwrap_or.ensures up)

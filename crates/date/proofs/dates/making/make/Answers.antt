@@ -1,34 +1,36 @@
-use Rattle.std.proofs.Common.{◌≡◌, ℕ, ◌≤◌, true, ℤ, pos, nat_abs, Err, sym, ap, ◌∙◌, arith, w32, w64, SFits, to_z, of_z}
+use Rattle.std.proofs.Common.{◌≡◌, true, ℤ, pos, nat_abs, Some, None, Option, Err, sym, ap, ◌∙◌, subst, arith, w32, w64, SFits, to_z, of_z}
 use Rattle.std.proofs.lemmas.Int.{ints, to_z-of_z}
 use Rattle.std.proofs.lemmas.Bool.{eq-eqb}
 use Rattle.date.specs.declared.faults.Cause.TheVariants.{Field}
+use Rattle.date.specs.declared.faults.Field.{Field as DateField}
 use Rattle.date.specs.Fields.{misfit, fits}
+use Rattle.date.specs.Misfits.{first_misfit}
 use Rattle.date.specs.Refusals.{refusal}
 use Rattle.date.proofs.Keys.{Ranged, ranged}
-use Rattle.date.proofs.Making.{dated_is, dated_misfit}
+use Rattle.date.proofs.Making.{Numbered, misfit_named, dated_is, dated_misfit}
 use Rattle.date.proofs.dates.making.make.Goals as goal
-use Rattle.date.proofs.dates.making.make.Goals.{Else-place-gt0}
+use Rattle.date.proofs.dates.making.make.Goals.{In_default}
 
-pub returns-then-place-gt0 : goal.returns-then-place-gt0
-returns-then-place-gt0 c =
+-- what was found of the numbers, told of them as the call passed them
+named_by : (e y k m d : ℤ) (o : Option DateField) → SFits w64 e → SFits w64 y → SFits w64 k → SFits w64 m → SFits w64 d → o ≡ first_misfit (to_z w64 (of_z w64 e)) (to_z w64 (of_z w64 y)) (to_z w64 (of_z w64 k)) (to_z w64 (of_z w64 m)) (to_z w64 (of_z w64 d)) → Numbered o (misfit e y k m d)
+named_by e y k m d o fe fy fk fm fd h =
+    let p : o ≡ first_misfit e y k m d = simp (to_z-of_z, fe, fy, fk, fm, fd) at h in
+    subst (λ x. Numbered x (misfit e y k m d)) (sym p) (misfit_named e y k m d)
+
+pub returns-in-Some : goal.returns-in-Some
+returns-in-Some c =
     let a = c.args in
     let f = c.ranges in
-    let p : c.first_misfit-place.result ≡ misfit a.era a.year a.mark a.month a.day = simp (to_z-of_z, f.era, f.year, f.mark, f.month, f.day) at c.first_misfit-place.ensures in
-    ap Err (c.new.ensures ∙ ap (λ x. refusal Field x (pos 0) 0) p) ∙ sym (dated_misfit a.era a.year a.mark a.month a.day (λ e. omega arith))
+    let n = named_by a.era a.year a.mark a.month a.day (Some c.in-Some.field) f.era f.year f.mark f.month f.day (sym c.in-Some.is ∙ c.first_misfit.ensures) in
+    ap Err (c.misfit.ensures ∙ ap (λ x. refusal Field x (pos 0) 0) (sym n.0)) ∙ sym (dated_misfit a.era a.year a.mark a.month a.day n.1)
 
--- the numbers are in range, told of the values as the call passed them
-fit_by : (e y k m d : ℤ) (r : ℕ) → SFits w64 e → SFits w64 y → SFits w64 k → SFits w64 m → SFits w64 d → r ≡ misfit (to_z w64 (of_z w64 e)) (to_z w64 (of_z w64 y)) (to_z w64 (of_z w64 k)) (to_z w64 (of_z w64 m)) (to_z w64 (of_z w64 d)) → r ≤ 0 → fits e y k m d ≡ true
-fit_by e y k m d r fe fy fk fm fd h l =
-    let p : r ≡ misfit e y k m d = simp (to_z-of_z, fe, fy, fk, fm, fd) at h in
-    eq-eqb _ _ (sym p ∙ omega arith)
-
-fit : (c : Else-place-gt0) → fits c.args.era c.args.year c.args.mark c.args.month c.args.day ≡ true
+fit : (c : In_default) → fits c.args.era c.args.year c.args.mark c.args.month c.args.day ≡ true
 fit c =
     let a = c.args in
     let f = c.ranges in
-    fit_by a.era a.year a.mark a.month a.day c.first_misfit-place.result f.era f.year f.mark f.month f.day c.first_misfit-place.ensures c.if-place-gt0.false
+    eq-eqb _ _ (named_by a.era a.year a.mark a.month a.day None f.era f.year f.mark f.month f.day (sym c.in_default.is ∙ c.first_misfit.ensures))
 
-in_range : (c : Else-place-gt0) → Ranged c.args.era c.args.year c.args.mark c.args.month c.args.day
+in_range : (c : In_default) → Ranged c.args.era c.args.year c.args.mark c.args.month c.args.day
 in_range c = ranged _ _ _ _ _ (fit c)
 
 pub overflow_cast-result : goal.overflow_cast-result
@@ -59,5 +61,6 @@ invariant_of-result c =
 pub returns : goal.returns
 returns c =
     let a = c.args in
-    let r = ranged a.era a.year a.mark a.month a.day (fit_by a.era a.year a.mark a.month a.day c.first_misfit-place.result c.ranges.era c.ranges.year c.ranges.mark c.ranges.month c.ranges.day c.first_misfit-place.ensures c.if-place-gt0.false) in
+    let f = c.ranges in
+    let r = ranged a.era a.year a.mark a.month a.day (eq-eqb _ _ (named_by a.era a.year a.mark a.month a.day None f.era f.year f.mark f.month f.day (sym c.in_default.is ∙ c.first_misfit.ensures))) in
     sym (dated_is _ _ _ _ _ _ (omega (arith, ints)) (omega (arith, ints)) (omega (arith, ints)) (omega (arith, ints)) (omega (arith, ints)))

@@ -1,5 +1,9 @@
-use Rattle.layer.proofs.Rows.{era_small}
+use Rattle.std.proofs.Common.{rules}
+use Rattle.std.proofs.lemmas.List.Sorted.{IsPartitionPoint-from_clause}
+use Rattle.layer.proofs.Rows.{began, era_is}
 use Rattle.layer.proofs.table.Table.era_on.Goals as goal
 
-pub overflow_cast-result : goal.overflow_cast-result
-overflow_cast-result c = record { fits = era_small c.args.self.now _ _ c.requires c.last_begun.ensures }
+pub returns : goal.returns
+returns c =
+    let h = c.partition_point.ensures in
+    rw (← c.self.view_is, ← c.deref.ensures.0) (era_is _ _ _ (rw c.deref.ensures.0 c.self.invariant) h.bound (λ p. IsPartitionPoint-from_clause (began c.args.day) c.deref.result.now c.partition_point.result h.partitioned p (λ x b f q. search rules)))

@@ -1,0 +1,99 @@
+use Rattle.std.proofs.Common.{◌≡◌, true, false, int_lt, ℤ, pos, ◌+ℤ◌, ◌≤ℤ◌, ◌<ℤ◌, ◌⊎◌, MatchOption, Some, ap, sym, subst, ◌∙◌, arith, rules, tests, w32, to_z, of_z}
+use Rattle.std.proofs.lemmas.Int.{ints}
+use Rattle.std.specs.Range.{range_inclusive_start, range_inclusive_end, range_inclusive_exhausted}
+use Rattle.reckoning.specs.Held.{HoldsYear}
+use Rattle.reckoning.specs.Reckoned.{has_day}
+use Rattle.reckoning.specs.Rules.{InYears}
+use Rattle.reckoning.proofs.Ranges.{asked_down, found_down, asked_up, found_up}
+use Rattle.reckoning.proofs.Steps.{before_first, year_held}
+use Rattle.reckoning.proofs.reckoned.Reckoned.year_of.Goals as goal
+use Rattle.reckoning.proofs.reckoned.Reckoned.year_of.Goals.{After-find, After-find-2}
+
+pub clamp-near-requires : goal.clamp-near-requires
+clamp-near-requires g c =
+    let b = g.met.R.Reckoning.bounds c.args.self.now.by in
+    let first = b.first in
+    let last = b.last in
+    omega (arith, ints)
+
+pub find-requires-clause-callable : goal.find-requires-clause-callable
+find-requires-clause-callable g c =
+    let b = g.met.R.Reckoning.bounds c.args.self.now.by in
+    let first = b.first in
+    let last = b.last in
+    let high = c.clamp-near.ensures.upper_bound in
+    let from = ap range_inclusive_start c.rev.ensures.source ∙ c.new.ensures.start in
+    let to = ap range_inclusive_end c.rev.ensures.source ∙ c.new.ensures.end in
+    asked_down (λ x q k. search (rules, tests)) (λ x a z. let h : InYears (g.R.Reckoning.rule c.args.self.now.by) x = record { from = omega (arith, ints); to = omega (arith, ints) } in search rules)
+
+-- the year found back from the hint starts before the day, and if none is found, the first does not
+back : (g : _) (c : After-find g) → let begun = λ (y : ℤ). int_lt ((g.R.Reckoning.rule c.args.self.now.by).start y 1) c.args.day.number in let s = c.rev.result.iter in MatchOption c.find.result (begun (range_inclusive_start s) ≡ false) (λ y. (range_inclusive_start s ≤ℤ y) × (y ≤ℤ range_inclusive_end s) × (begun y ≡ true))
+back g c =
+    let r = g.R.Reckoning.rule c.args.self.now.by in
+    let n = c.args.day.number in
+    let low = c.clamp-near.ensures.lower_bound in
+    let from = ap range_inclusive_start c.rev.ensures.source ∙ c.new.ensures.start in
+    let to = ap range_inclusive_end c.rev.ensures.source ∙ c.new.ensures.end in
+    let whole = ap range_inclusive_exhausted c.rev.ensures.source ∙ c.new.ensures.exhausted in
+    found_down c.rev.result c.find.new.self _ c.find.result (λ y. int_lt (r.start y 1) n ≡ true) (λ y. int_lt (r.start y 1) n ≡ false) c.find.ensures.ran whole (omega (arith, ints)) (λ x q k. search (rules, tests)) (λ x q k. (search (rules, tests), search (rules, tests)))
+
+pub returns-in_err-year : goal.returns-in_err-year
+returns-in_err-year g c =
+    let a = (goal.at.returns-in_err-year g c).After-find in
+    let r = g.R.Reckoning.rule c.args.self.now.by in
+    let n = c.args.day.number in
+    let s = c.rev.result.iter in
+    let k : int_lt (r.start (range_inclusive_start s) 1) n ≡ false = subst (λ o. MatchOption o (int_lt (r.start (range_inclusive_start s) 1) n ≡ false) (λ y. (range_inclusive_start s ≤ℤ y) × (y ≤ℤ range_inclusive_end s) × (int_lt (r.start y 1) n ≡ true))) c.in_err-year.was (back g a) in
+    let from = ap range_inclusive_start c.rev.ensures.source ∙ c.new.ensures.start in
+    let b = g.met.R.Reckoning.bounds c.args.self.now.by in
+    let first = b.first in
+    subst (λ o. MatchOption o (has_day r n ≡ false) (λ y. HoldsYear r n y)) (sym c.from_residual.ensures) (before_first r _ _ (omega (arith, ints)) k)
+
+-- so it is a year of the rule
+found : (g : _) (c : After-find g) (y : ℤ) → let r = g.R.Reckoning.rule c.args.self.now.by in c.find.result ≡ Some y → InYears r y × (y ≤ℤ c.LAST-last.result) × (int_lt (r.start y 1) c.args.day.number ≡ true)
+found g c y e =
+    let r = g.R.Reckoning.rule c.args.self.now.by in
+    let n = c.args.day.number in
+    let s = c.rev.result.iter in
+    let b = g.met.R.Reckoning.bounds c.args.self.now.by in
+    let first = b.first in
+    let last = b.last in
+    let high = c.clamp-near.ensures.upper_bound in
+    let from = ap range_inclusive_start c.rev.ensures.source ∙ c.new.ensures.start in
+    let to = ap range_inclusive_end c.rev.ensures.source ∙ c.new.ensures.end in
+    let k : (range_inclusive_start s ≤ℤ y) × (y ≤ℤ range_inclusive_end s) × (int_lt (r.start y 1) n ≡ true) = subst (λ o. MatchOption o (int_lt (r.start (range_inclusive_start s) 1) n ≡ false) (λ y. (range_inclusive_start s ≤ℤ y) × (y ≤ℤ range_inclusive_end s) × (int_lt (r.start y 1) n ≡ true))) e (back g c) in
+    (record { from = omega (arith, ints, k.0); to = omega (arith, ints, k.1) }, omega (arith, ints, k.1), k.2)
+
+pub find-requires-2-clause-callable : goal.find-requires-2-clause-callable
+find-requires-2-clause-callable g c =
+    let a = (goal.at.find-requires-2-clause-callable g c).After-find in
+    let b = g.met.R.Reckoning.bounds c.args.self.now.by in
+    let last = b.last in
+    let f = found g a c.in_ok-year.year c.in_ok-year.was in
+    let from = f.0.from in
+    asked_up (omega (arith, ints, f.1)) (λ x q k. search (rules, tests)) (λ x a z. let h : InYears (g.R.Reckoning.rule c.args.self.now.by) (x +ℤ pos 1) = record { from = omega (arith, ints); to = omega (arith, ints) } in search rules)
+
+-- the next year starts too late, or there is none
+on : (g : _) (c : After-find-2 g) → let begun = λ (y : ℤ). int_lt ((g.R.Reckoning.rule c.args.self.now.by).start y 1) c.args.day.number in let y : ℤ = to_z w32 (of_z w32 c.in_ok-year.year) in let z : ℤ = to_z w32 (of_z w32 c.LAST-last.result) in y ≤ℤ z
+    → MatchOption c.find-2.result ((z ≡ y) ⊎ (begun z ≡ true)) (λ i. (y ≤ℤ i) × (i <ℤ z) × ((i ≡ y) ⊎ (begun i ≡ true)) × (begun (i +ℤ pos 1) ≡ false))
+on g c l =
+    let r = g.R.Reckoning.rule c.args.self.now.by in
+    let n = c.args.day.number in
+    let next : ℤ → ℤ = λ x. to_z w32 (of_z w32 (to_z w32 (of_z w32 x) +ℤ pos 1)) in
+    found_up _ c.find-2.new.self _ c.find-2.result (λ y. int_lt (r.start (y +ℤ pos 1) 1) n ≡ false) (λ y. int_lt (r.start y 1) n ≡ true) c.find-2.ensures.ran l
+    (λ x q a b k. let e : next x ≡ x +ℤ pos 1 = omega (arith, ints) in let h : int_lt (r.start (next x) 1) n ≡ false = search rules in subst (λ v. int_lt (r.start v 1) n ≡ false) e h)
+    (λ x q a b k. let e : next x ≡ x +ℤ pos 1 = omega (arith, ints) in let h : int_lt (r.start (next x) 1) n ≡ true = search rules in (search (rules, tests), subst (λ v. int_lt (r.start v 1) n ≡ true) e h))
+
+pub returns : goal.returns
+returns g c =
+    let a = goal.at.returns g c in
+    let r = g.R.Reckoning.rule c.args.self.now.by in
+    let n = c.args.day.number in
+    let b = g.met.R.Reckoning.bounds c.args.self.now.by in
+    let last = b.last in
+    let last_day = b.last_day in
+    let y : ℤ = c.in_ok-year.year in
+    let z : ℤ = to_z w32 (of_z w32 y) in
+    let same : y ≡ z = omega (arith, ints) in
+    let f : InYears r z × (z ≤ℤ c.LAST-last.result) × (int_lt (r.start z 1) n ≡ true) = subst (λ v. InYears r v × (v ≤ℤ c.LAST-last.result) × (int_lt (r.start v 1) n ≡ true)) same (found g a.After-find y c.in_ok-year.was) in
+    year_held r n z _ _ c.find-2.result f.0 f.2 (omega (arith, ints)) (omega (arith, ints)) (omega (arith, ints) ∙ c.unwrap_or.ensures) (on g a.After-find-2 (omega (arith, ints, f.1)))

@@ -1,4 +1,0 @@
-// The years that a date of these calendars may have.
-pub(crate) const FIRST: i32 = 1;
-
-pub(crate) const LAST: i32 = 99_999;
