@@ -99,7 +99,7 @@ def travelling(tree):
 POINTS = [
     ("1a numbers for kinds", lambda t: lines(t, r"const KIND: u8|kind: u8|fn kind\(")),
     ("1b numbers for fields, 0 for none, and flags beside values", lambda t: lines(t, r"Fault::new\([^)]*Field, \d|0 where (none|there|it has|no )|minus: bool|Neither = 0|-> usize$")),
-    ("1c results and options taken to pieces by hand", lambda t: lines(t, r"Ok\(\w+\) => Ok\(\w+\)|let Ok\(\w+\) = |if let None = |if let Some\(_\) = |Err\(cause\) =>|Err\(_\) => (Err|false)|let Some\(row\) = row else")),
+    ("1c results and options taken to pieces by hand", lambda t: lines(t, r"Ok\(\w+\) => Ok\(\w+\)|let Ok\(.*\) = |if let None = |if let Some\(_\) = |Err\(cause\) =>|Err\(_\) => (Err|false)|let Some\(row\) = row else")),
     ("2 twins", twins),
     ("3 loops that count by hand", lambda t: lines(t, r"^\s*('\w+: )?while |for \w+ in [\w.]+\.\.|for _ in ")),
     ("4 order, conversion and printing by hand", lambda t: lines(t, r"fn (precedes|ranked|is_earlier|compare|read|date|number|place)\(|^(pub(\(crate\))? )?struct (Era|Mark|Pair|Written|Refusal)\(|\{tens\}")),

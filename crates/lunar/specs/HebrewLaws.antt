@@ -5,7 +5,7 @@ use Rattle.std.specs.Int.Signed.{le_z_yes}
 use Rattle.std.proofs.lemmas.Int.{ints}
 use Rattle.date.specs.Division.{remainder}
 use Rattle.date.proofs.Divisions.{floor_is, remainder_lt}
-use Rattle.reckoning.specs.Rules.{Sound, InYears, end}
+use Rattle.reckoning.specs.Rules.{Sound, InYears}
 use Rattle.lunar.specs.Hebrew.{new_year, year_days, before_year, hebrew}
 use Rattle.lunar.specs.HebrewMonths.{days, of_first, before_month}
 use Rattle.lunar.specs.HebrewYears.{Length, Regular}
@@ -71,11 +71,6 @@ hebrew_sound = record {
   start_fits = le_z_yes tt;
   end_fits = le_z_yes tt;
 }
-
--- the last day of the last year
-pub hebrew_end : pos 35150867 ≡ end hebrew
-unfolding new_year
-hebrew_end = refl
 
 pub regular_by : (y : ℤ) (n : ℕ) → pos 1 ≤ℤ y → n ≡ year_days (unsigned_abs y) → Regular y n
 regular_by y n h e = let P : ℕ → Type 0 = λ x. Regular y x in subst P (sym e) (regular y h)

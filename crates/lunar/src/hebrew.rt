@@ -1,8 +1,8 @@
-ghost use Rattle.std.specs.Prelude.{◌≡◌, pos, ◌≤ℤ◌, unsigned_abs, refl};
+ghost use Rattle.std.specs.Prelude.{◌≡◌, pos, ◌≤ℤ◌, unsigned_abs};
 ghost use Rattle.lunar.specs.Hebrew.{year_days, before_year, hebrew as hebrew_rule};
 ghost use Rattle.lunar.specs.HebrewMonths.{complete, deficient, days, before_month};
 ghost use Rattle.lunar.specs.HebrewYears.{Regular};
-ghost use Rattle.lunar.specs.HebrewLaws.{hebrew_sound, hebrew_end};
+ghost use Rattle.lunar.specs.HebrewLaws.{hebrew_sound};
 
 use crate::new_year::{DAY, MONTH, is_leap, new_year_day};
 use calendar::calendar::Kind;
@@ -10,7 +10,7 @@ use date::days::Day;
 use date::division::divide;
 use reckoning::months::Months;
 use reckoning::reckoning::Reckoning;
-use reckoning::years::{self, Year};
+use reckoning::years::{FIRST, LAST, Outline, Year};
 
 const MONTHS: u8 = 13;
 
@@ -107,19 +107,17 @@ pub fn days_in_year(year: i32) -> u16
 impl Reckoning for Hebrew {
     type Months = HebrewMonths;
 
-    const FIRST: i32 = years::FIRST;
-
-    const LAST: i32 = years::LAST;
-
-    const LAST_DAY: i32 = 35_150_867;
-
-    ghost FIRST = { pos 1 };
-
-    ghost LAST = { pos 99999 };
-
-    ghost LAST_DAY = { pos 35150867 };
-
     ghost rule = { λ _. hebrew_rule };
+
+    #[tactic(auto, unfolding(crate::specs::Hebrew::new_year))]
+    fn outline(&self) -> Outline {
+        Outline {
+            kind: Hebrew::KIND,
+            first: FIRST,
+            last: LAST,
+            last_day: 35_150_867,
+        }
+    }
 
     fn months(&self, year: i32) -> HebrewMonths {
         HebrewMonths {
@@ -139,6 +137,4 @@ impl Reckoning for Hebrew {
     }
 
     ghost sound = { λ c. hebrew_sound };
-
-    ghost bounds = { λ c. record { kind = refl; first = refl; last = refl; last_day = hebrew_end } };
 }

@@ -1,4 +1,4 @@
-ghost use Rattle.std.specs.Prelude.{pos, refl};
+ghost use Rattle.std.specs.Prelude.{pos};
 ghost use Rattle.lunar.specs.Islamic.{days, before_month, islamic as islamic_rule};
 ghost use Rattle.lunar.specs.IslamicYears.{islamic_sound};
 
@@ -7,7 +7,7 @@ use date::days::Day;
 use date::division::divide;
 use reckoning::months::Months;
 use reckoning::reckoning::Reckoning;
-use reckoning::years::{self, Year};
+use reckoning::years::{FIRST, LAST, Outline, Year};
 
 const MONTHS: u8 = 12;
 
@@ -59,19 +59,16 @@ impl Months for IslamicMonths {
 impl Reckoning for Islamic {
     type Months = IslamicMonths;
 
-    const FIRST: i32 = years::FIRST;
-
-    const LAST: i32 = years::LAST;
-
-    const LAST_DAY: i32 = 35_663_326;
-
-    ghost FIRST = { pos 1 };
-
-    ghost LAST = { pos 99999 };
-
-    ghost LAST_DAY = { pos 35663326 };
-
     ghost rule = { λ _. islamic_rule };
+
+    fn outline(&self) -> Outline {
+        Outline {
+            kind: Islamic::KIND,
+            first: FIRST,
+            last: LAST,
+            last_day: 35_663_326,
+        }
+    }
 
     // Eleven years of thirty are leap.
     fn months(&self, year: i32) -> IslamicMonths {
@@ -91,6 +88,4 @@ impl Reckoning for Islamic {
     }
 
     ghost sound = { λ c. islamic_sound };
-
-    ghost bounds = { λ c. record { kind = refl; first = refl; last = refl; last_day = refl } };
 }

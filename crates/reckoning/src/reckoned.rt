@@ -48,10 +48,17 @@ impl<R: Reckoning> Reckoned<R> {
         Reckoned { by }
     }
 
+    fn kind(&self) -> u8
+        ensures { result ≡ (R.rule self.now.by).kind }
+    {
+        self.by.outline().kind
+    }
+
     fn has_year(&self, year: i32) -> bool
         ensures { result ≡ has_year (R.rule self.now.by) year }
     {
-        (R::FIRST..=R::LAST).contains(&year)
+        let outline = self.by.outline();
+        outline.first <= year && year <= outline.last
     }
 
     // Whether the year begins before the day.
@@ -68,9 +75,10 @@ impl<R: Reckoning> Reckoned<R> {
         ensures { let r = R.rule self.now.by in
             MatchOption result (has_day r day.number ≡ false) (λ y. HoldsYear r day.number y) }
     {
-        let (first, last) = (R::FIRST, R::LAST);
+        let outline = self.by.outline();
+        let (first, last) = (outline.first, outline.last);
         let n = day.number();
-        if n > R::LAST_DAY {
+        if n > outline.last_day {
             return None;
         }
         let near = self.by.year_near(day).clamp(first, last);
@@ -143,20 +151,20 @@ impl<R: Reckoning> Calendar for Reckoned<R> {
 
     #[tactic(auto, unfolding(crate::specs::Reckoned::on))]
     fn date_on(&self, day: i32) -> Result<Date, Fault> {
-        let day = Day::new(day).ok_or(Fault::plain(Cause::OutsideRange, R::KIND))?;
-        let year = self
-            .year_of(day)
-            .ok_or(Fault::plain(Cause::NoDate, R::KIND))?;
+        let kind = self.kind();
+        let day = Day::new(day).ok_or(Fault::plain(Cause::OutsideRange, kind))?;
+        let year = self.year_of(day).ok_or(Fault::plain(Cause::NoDate, kind))?;
         self.date_in(year, day)
     }
 
     #[tactic(auto, unfolding(crate::specs::Reckoned::of))]
     fn day_of(&self, date: Date) -> Result<i32, Fault> {
+        let kind = self.kind();
         let months = self
             .months_of(&date)
-            .map_err(|field| Fault::misfit(field, R::KIND))?;
+            .map_err(|field| Fault::misfit(field, kind))?;
         let day = self.day_in(&months, &date);
-        Day::new(day).ok_or(Fault::new(Cause::OutsideRange, 0, day, R::KIND))?;
+        Day::new(day).ok_or(Fault::new(Cause::OutsideRange, 0, day, kind))?;
         Ok(day)
     }
 }

@@ -1,31 +1,21 @@
-ghost use Rattle.std.specs.Prelude.{◌≡◌, ℤ};
+ghost use Rattle.std.specs.Prelude.{◌≡◌};
 ghost use Rattle.reckoning.specs.Rules.{Rule, Sound, InYears};
 ghost use Rattle.reckoning.specs.Years.{Bounds, MonthsOf};
 
 use crate::months::Months;
-use calendar::calendar::Kind;
+use crate::years::Outline;
 use date::days::Day;
 
 // A calendar that goes by a rule: which years it has, on which day each begins, and which months it has. Only the
 // conversion asks for a year, after it has tested that the year is the rule's.
-pub trait Reckoning: Kind {
+pub trait Reckoning {
     type Months: Months;
 
-    // The first year, and the last.
-    const FIRST: i32;
-
-    const LAST: i32;
-
-    // The last day of the last year.
-    const LAST_DAY: i32;
-
-    ghost FIRST: { ℤ };
-
-    ghost LAST: { ℤ };
-
-    ghost LAST_DAY: { ℤ };
-
     ghost rule: { Self → Rule };
+
+    // What holds of every year.
+    fn outline(&self) -> Outline
+        ensures { Bounds (rule self.now) result.kind result.first result.last result.last_day };
 
     // The months of the year.
     fn months(&self, year: i32) -> Self::Months
@@ -41,6 +31,4 @@ pub trait Reckoning: Kind {
     fn year_near(&self, day: Day) -> i32;
 
     ghost sound: { (c : Self) → Sound (rule c) };
-
-    ghost bounds: { (c : Self) → Bounds (rule c) Self.KIND FIRST LAST LAST_DAY };
 }

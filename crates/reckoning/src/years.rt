@@ -5,7 +5,16 @@ pub const FIRST: i32 = 1;
 
 pub const LAST: i32 = 99_999;
 
-// A year of such a calendar, or the one after the last, whose start ends it.
+// What holds of every year of a calendar: its kind, its first year and its last, and the last day of the last.
+#[derive(Clone, Copy, PartialEq, Eq, Debug)]
+pub struct Outline {
+    pub kind: u8,
+    pub first: i32,
+    pub last: i32,
+    pub last_day: i32,
+}
+
+// A year of a calendar whose first year is year 1, or the one after the last, whose start ends it.
 #[derive(Clone, Copy, PartialEq, Eq, PartialOrd, Ord, Debug)]
 pub struct Year {
     number: u32,

@@ -1,5 +1,3 @@
-ghost use Rattle.std.specs.Prelude.{refl};
-ghost use Rattle.reckoning.specs.Rules.{last_year, end};
 ghost use Rattle.solar.specs.Coptic.{coptic};
 ghost use Rattle.solar.specs.CopticYears.{coptic_sound};
 
@@ -8,7 +6,7 @@ use calendar::calendar::Kind;
 use date::days::Day;
 use date::division::divide;
 use reckoning::reckoning::Reckoning;
-use reckoning::years::{self, Year};
+use reckoning::years::{FIRST, LAST, Outline, Year};
 
 #[derive(Clone, Copy)]
 pub struct Coptic;
@@ -23,23 +21,18 @@ impl Kind for Coptic {
 impl Reckoning for Coptic {
     type Months = Thirty;
 
-    const FIRST: i32 = years::FIRST;
-
-    const LAST: i32 = years::LAST;
-
-    const LAST_DAY: i32 = 36_628_239;
-
-    ghost FIRST = { coptic.first };
-
-    ghost LAST = { last_year coptic };
-
-    ghost LAST_DAY = { end coptic };
-
     ghost rule = { λ _. coptic };
 
     ghost sound = { λ _. coptic_sound };
 
-    ghost bounds = { λ _. record { kind = refl; first = refl; last = refl; last_day = refl } };
+    fn outline(&self) -> Outline {
+        Outline {
+            kind: Coptic::KIND,
+            first: FIRST,
+            last: LAST,
+            last_day: 36_628_239,
+        }
+    }
 
     // Every fourth year is leap, from the third.
     fn months(&self, year: i32) -> Thirty {

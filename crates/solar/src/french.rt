@@ -1,5 +1,3 @@
-ghost use Rattle.std.specs.Prelude.{refl};
-ghost use Rattle.reckoning.specs.Rules.{last_year, end};
 ghost use Rattle.solar.specs.French.{french};
 ghost use Rattle.solar.specs.FrenchYears.{french_sound};
 
@@ -9,7 +7,7 @@ use calendar::calendar::Kind;
 use date::days::Day;
 use date::division::divide;
 use reckoning::reckoning::Reckoning;
-use reckoning::years::{self, Year};
+use reckoning::years::{FIRST, LAST, Outline, Year};
 
 #[derive(Clone, Copy)]
 pub struct French;
@@ -24,23 +22,18 @@ impl Kind for French {
 impl Reckoning for French {
     type Months = Thirty;
 
-    const FIRST: i32 = years::FIRST;
-
-    const LAST: i32 = years::LAST;
-
-    const LAST_DAY: i32 = 37_178_274;
-
-    ghost FIRST = { french.first };
-
-    ghost LAST = { last_year french };
-
-    ghost LAST_DAY = { end french };
-
     ghost rule = { λ _. french };
 
     ghost sound = { λ _. french_sound };
 
-    ghost bounds = { λ _. record { kind = refl; first = refl; last = refl; last_day = refl } };
+    fn outline(&self) -> Outline {
+        Outline {
+            kind: French::KIND,
+            first: FIRST,
+            last: LAST,
+            last_day: 37_178_274,
+        }
+    }
 
     // The Gregorian leap years are leap, but not every 4,000th year.
     fn months(&self, year: i32) -> Thirty {

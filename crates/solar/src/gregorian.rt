@@ -1,5 +1,4 @@
-ghost use Rattle.std.specs.Prelude.{◌≡◌, refl, pos};
-ghost use Rattle.reckoning.specs.Rules.{last_year, end};
+ghost use Rattle.std.specs.Prelude.{◌≡◌, pos};
 ghost use Rattle.solar.specs.Gregorian.{leap, before_year, gregorian};
 ghost use Rattle.solar.specs.GregorianYears.{gregorian_sound};
 
@@ -8,7 +7,7 @@ use calendar::calendar::Kind;
 use date::days::Day;
 use date::division::divide;
 use reckoning::reckoning::Reckoning;
-use reckoning::years::{self, Year};
+use reckoning::years::{FIRST, LAST, Outline, Year};
 
 #[derive(Clone, Copy)]
 pub struct Gregorian;
@@ -44,23 +43,18 @@ pub(crate) fn days_before(year: Year) -> i32
 impl Reckoning for Gregorian {
     type Months = Civil;
 
-    const FIRST: i32 = years::FIRST;
-
-    const LAST: i32 = years::LAST;
-
-    const LAST_DAY: i32 = 36_523_884;
-
-    ghost FIRST = { gregorian.first };
-
-    ghost LAST = { last_year gregorian };
-
-    ghost LAST_DAY = { end gregorian };
-
     ghost rule = { λ _. gregorian };
 
     ghost sound = { λ _. gregorian_sound };
 
-    ghost bounds = { λ _. record { kind = refl; first = refl; last = refl; last_day = refl } };
+    fn outline(&self) -> Outline {
+        Outline {
+            kind: Gregorian::KIND,
+            first: FIRST,
+            last: LAST,
+            last_day: 36_523_884,
+        }
+    }
 
     fn months(&self, year: i32) -> Civil {
         Civil {

@@ -1,5 +1,4 @@
-ghost use Rattle.std.specs.Prelude.{◌≡◌, refl, pos, ◌-ℤ◌, ◌≤ℤ◌};
-ghost use Rattle.reckoning.specs.Rules.{last_year, end};
+ghost use Rattle.std.specs.Prelude.{◌≡◌, pos, ◌-ℤ◌, ◌≤ℤ◌};
 ghost use Rattle.solar.specs.Iso.{week_one, weeks, before_week, iso};
 ghost use Rattle.solar.specs.IsoYears.{iso_sound};
 ghost use Rattle.solar.specs.WholeWeeks.{Whole};
@@ -10,7 +9,7 @@ use date::days::Day;
 use date::division::divide;
 use reckoning::months::Months;
 use reckoning::reckoning::Reckoning;
-use reckoning::years::{self, Year};
+use reckoning::years::{FIRST, LAST, Outline, Year};
 
 #[derive(Clone, Copy)]
 pub struct Iso;
@@ -80,23 +79,18 @@ pub fn weeks_in(year: i32) -> u8
 impl Reckoning for Iso {
     type Months = Weeks;
 
-    const FIRST: i32 = years::FIRST;
-
-    const LAST: i32 = years::LAST;
-
-    const LAST_DAY: i32 = 36_523_886;
-
-    ghost FIRST = { iso.first };
-
-    ghost LAST = { last_year iso };
-
-    ghost LAST_DAY = { end iso };
-
     ghost rule = { λ _. iso };
 
     ghost sound = { λ _. iso_sound };
 
-    ghost bounds = { λ _. record { kind = refl; first = refl; last = refl; last_day = refl } };
+    fn outline(&self) -> Outline {
+        Outline {
+            kind: Iso::KIND,
+            first: FIRST,
+            last: LAST,
+            last_day: 36_523_886,
+        }
+    }
 
     fn months(&self, year: i32) -> Weeks {
         Weeks {

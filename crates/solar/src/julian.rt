@@ -1,5 +1,3 @@
-ghost use Rattle.std.specs.Prelude.{refl};
-ghost use Rattle.reckoning.specs.Rules.{last_year, end};
 ghost use Rattle.solar.specs.Julian.{julian};
 ghost use Rattle.solar.specs.JulianYears.{julian_sound};
 
@@ -8,7 +6,7 @@ use calendar::calendar::Kind;
 use date::days::Day;
 use date::division::divide;
 use reckoning::reckoning::Reckoning;
-use reckoning::years::{self, Year};
+use reckoning::years::{FIRST, LAST, Outline, Year};
 
 #[derive(Clone, Copy)]
 pub struct Julian;
@@ -23,23 +21,18 @@ impl Kind for Julian {
 impl Reckoning for Julian {
     type Months = Civil;
 
-    const FIRST: i32 = years::FIRST;
-
-    const LAST: i32 = years::LAST;
-
-    const LAST_DAY: i32 = 36_524_632;
-
-    ghost FIRST = { julian.first };
-
-    ghost LAST = { last_year julian };
-
-    ghost LAST_DAY = { end julian };
-
     ghost rule = { λ _. julian };
 
     ghost sound = { λ _. julian_sound };
 
-    ghost bounds = { λ _. record { kind = refl; first = refl; last = refl; last_day = refl } };
+    fn outline(&self) -> Outline {
+        Outline {
+            kind: Julian::KIND,
+            first: FIRST,
+            last: LAST,
+            last_day: 36_524_632,
+        }
+    }
 
     // Every fourth year is leap.
     fn months(&self, year: i32) -> Civil {

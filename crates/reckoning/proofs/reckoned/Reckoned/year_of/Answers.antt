@@ -11,14 +11,14 @@ use Rattle.reckoning.proofs.reckoned.Reckoned.year_of.Goals.{After-find, After-f
 
 pub clamp-near-requires : goal.clamp-near-requires
 clamp-near-requires g c =
-    let b = g.met.R.Reckoning.bounds c.args.self.now.by in
+    let b = c.outline-outline.ensures in
     let first = b.first in
     let last = b.last in
     omega (arith, ints)
 
 pub find-requires-clause-callable : goal.find-requires-clause-callable
 find-requires-clause-callable g c =
-    let b = g.met.R.Reckoning.bounds c.args.self.now.by in
+    let b = c.outline-outline.ensures in
     let first = b.first in
     let last = b.last in
     let high = c.clamp-near.ensures.upper_bound in
@@ -45,17 +45,17 @@ returns-in_err-year g c =
     let s = c.rev.result.iter in
     let k : int_lt (r.start (range_inclusive_start s) 1) n ≡ false = subst (λ o. MatchOption o (int_lt (r.start (range_inclusive_start s) 1) n ≡ false) (λ y. (range_inclusive_start s ≤ℤ y) × (y ≤ℤ range_inclusive_end s) × (int_lt (r.start y 1) n ≡ true))) c.in_err-year.was (back g a) in
     let from = ap range_inclusive_start c.rev.ensures.source ∙ c.new.ensures.start in
-    let b = g.met.R.Reckoning.bounds c.args.self.now.by in
+    let b = c.outline-outline.ensures in
     let first = b.first in
     subst (λ o. MatchOption o (has_day r n ≡ false) (λ y. HoldsYear r n y)) (sym c.from_residual.ensures) (before_first r _ _ (omega (arith, ints)) k)
 
 -- so it is a year of the rule
-found : (g : _) (c : After-find g) (y : ℤ) → let r = g.R.Reckoning.rule c.args.self.now.by in c.find.result ≡ Some y → InYears r y × (y ≤ℤ c.LAST-last.result) × (int_lt (r.start y 1) c.args.day.number ≡ true)
+found : (g : _) (c : After-find g) (y : ℤ) → let r = g.R.Reckoning.rule c.args.self.now.by in c.find.result ≡ Some y → InYears r y × (y ≤ℤ c.outline-outline.result.last) × (int_lt (r.start y 1) c.args.day.number ≡ true)
 found g c y e =
     let r = g.R.Reckoning.rule c.args.self.now.by in
     let n = c.args.day.number in
     let s = c.rev.result.iter in
-    let b = g.met.R.Reckoning.bounds c.args.self.now.by in
+    let b = c.outline-outline.ensures in
     let first = b.first in
     let last = b.last in
     let high = c.clamp-near.ensures.upper_bound in
@@ -67,14 +67,14 @@ found g c y e =
 pub find-requires-2-clause-callable : goal.find-requires-2-clause-callable
 find-requires-2-clause-callable g c =
     let a = (goal.at.find-requires-2-clause-callable g c).After-find in
-    let b = g.met.R.Reckoning.bounds c.args.self.now.by in
+    let b = c.outline-outline.ensures in
     let last = b.last in
     let f = found g a c.in_ok-year.year c.in_ok-year.was in
     let from = f.0.from in
     asked_up (omega (arith, ints, f.1)) (λ x q k. search (rules, tests)) (λ x a z. let h : InYears (g.R.Reckoning.rule c.args.self.now.by) (x +ℤ pos 1) = record { from = omega (arith, ints); to = omega (arith, ints) } in search rules)
 
 -- the next year starts too late, or there is none
-on : (g : _) (c : After-find-2 g) → let begun = λ (y : ℤ). int_lt ((g.R.Reckoning.rule c.args.self.now.by).start y 1) c.args.day.number in let y : ℤ = to_z w32 (of_z w32 c.in_ok-year.year) in let z : ℤ = to_z w32 (of_z w32 c.LAST-last.result) in y ≤ℤ z
+on : (g : _) (c : After-find-2 g) → let begun = λ (y : ℤ). int_lt ((g.R.Reckoning.rule c.args.self.now.by).start y 1) c.args.day.number in let y : ℤ = to_z w32 (of_z w32 c.in_ok-year.year) in let z : ℤ = to_z w32 (of_z w32 c.outline-outline.result.last) in y ≤ℤ z
     → MatchOption c.find-2.result ((z ≡ y) ⊎ (begun z ≡ true)) (λ i. (y ≤ℤ i) × (i <ℤ z) × ((i ≡ y) ⊎ (begun i ≡ true)) × (begun (i +ℤ pos 1) ≡ false))
 on g c l =
     let r = g.R.Reckoning.rule c.args.self.now.by in
@@ -89,11 +89,20 @@ returns g c =
     let a = goal.at.returns g c in
     let r = g.R.Reckoning.rule c.args.self.now.by in
     let n = c.args.day.number in
-    let b = g.met.R.Reckoning.bounds c.args.self.now.by in
+    let b = c.outline-outline.ensures in
     let last = b.last in
     let last_day = b.last_day in
+    let over = c.if-n-outline.false in
+    let t = c.outline-outline.type_inv in
+    let m = c.number-n.ensures in
     let y : ℤ = c.in_ok-year.year in
     let z : ℤ = to_z w32 (of_z w32 y) in
+    let s = g.met.R.Reckoning.sound c.args.self.now.by in
+    let low = s.first_fits in
+    let high = s.last_fits in
+    let h = (found g a.After-find y c.in_ok-year.was).0 in
+    let from = h.from in
+    let to = h.to in
     let same : y ≡ z = omega (arith, ints) in
-    let f : InYears r z × (z ≤ℤ c.LAST-last.result) × (int_lt (r.start z 1) n ≡ true) = subst (λ v. InYears r v × (v ≤ℤ c.LAST-last.result) × (int_lt (r.start v 1) n ≡ true)) same (found g a.After-find y c.in_ok-year.was) in
+    let f : InYears r z × (z ≤ℤ c.outline-outline.result.last) × (int_lt (r.start z 1) n ≡ true) = subst (λ v. InYears r v × (v ≤ℤ c.outline-outline.result.last) × (int_lt (r.start v 1) n ≡ true)) same (found g a.After-find y c.in_ok-year.was) in
     year_held r n z _ _ c.find-2.result f.0 f.2 (omega (arith, ints)) (omega (arith, ints)) (omega (arith, ints) ∙ c.unwrap_or.ensures) (on g a.After-find-2 (omega (arith, ints, f.1)))
