@@ -5,6 +5,7 @@ ghost use Rattle.lunar.specs.Weekdays.{number_of};
 
 use date::division::divide;
 
+// The weekday of a molad, or of the day to which a year's beginning is put off.
 #[derive(Clone, Copy, PartialEq, Eq, Debug)]
 pub(crate) enum Weekday {
     Sunday,
