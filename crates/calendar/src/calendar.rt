@@ -1,4 +1,4 @@
-ghost use Rattle.std.specs.Prelude.{◌≡◌, ℕ};
+ghost use Rattle.std.specs.Prelude.{◌≡◌};
 ghost use Rattle.calendar.specs.Piles.{Pile, Sound, meaning};
 
 use date::dates::Date;
@@ -7,8 +7,6 @@ use date::faults::Fault;
 // A calendar or layer has a kind number, fixed for its kind, which its refusals name.
 pub trait Kind {
     const KIND: u8;
-
-    ghost KIND: { ℕ };
 }
 
 // Anything that says which date a day carries and which day carries a date. Its pile is what it stands for: a calendar

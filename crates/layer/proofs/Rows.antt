@@ -106,7 +106,7 @@ rise_renumbered last (r ∷ rows) (suc i) k f h =
     let p = and_parts (follows last r) _ h in
     and_from _ _ p.0 (rise_renumbered r.first rows i k f p.1)
 
-length_renumbered : (rows : List Row) (i k : ℕ) → length (renumbered rows i k) ≡ length rows
+pub length_renumbered : (rows : List Row) (i k : ℕ) → length (renumbered rows i k) ≡ length rows
 length_renumbered [] i k = refl
 length_renumbered (r ∷ rows) zero k = refl
 length_renumbered (r ∷ rows) (suc i) k = ap suc (length_renumbered rows i k)

@@ -1,3 +1,4 @@
 pub mod StyleRules
 pub mod Tables
+pub mod Rooms
 pub mod Sounding

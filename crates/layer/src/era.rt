@@ -1,9 +1,9 @@
-ghost use Rattle.std.specs.Prelude.{◌≡◌, [], Ok};
-ghost use Rattle.calendar.specs.Eras.{era_kind, first_year, reckoned, unreckoned, with_eras};
+ghost use Rattle.std.specs.Prelude.{◌≡◌, true, [], Ok};
+ghost use Rattle.calendar.specs.Eras.{first_year, reckoned, unreckoned, with_eras};
 ghost use Rattle.calendar.specs.Piles.{meaning, calendar as calendar_of};
 ghost use Rattle.date.specs.Refusals.{then};
 ghost use Rattle.layer.specs.Sounding.{era_sound};
-ghost use Rattle.layer.specs.Tables.{may_add, with_row, may_amend, with_number, done_if};
+ghost use Rattle.layer.specs.Tables.{rows_fit, may_add, with_row, may_amend, with_number, done_if};
 
 use crate::era::counting::Beginning;
 use crate::table::Table;
@@ -16,16 +16,15 @@ use date::refusals::hand_on;
 
 mod counting;
 
-// A calendar whose years are counted anew from the first day of each row of a table.
+// A calendar whose years are counted anew from the first day of each row of a table. The rows fit and rise.
 pub struct Era<C: Calendar> {
     below: C,
     table: Table,
+    ghost ok: { rows_fit table ≡ true },
 }
 
 impl<C: Calendar> Kind for Era<C> {
     const KIND: u8 = Table::KIND;
-
-    ghost KIND = { era_kind };
 }
 
 impl<C: Calendar> Era<C> {
@@ -62,7 +61,7 @@ impl<C: Calendar> Era<C> {
     fn beginning(&self, row: Row) -> Result<Beginning, Fault>
         ensures { result ≡ then (first_year (meaning (C.Calendar.pile self.now.below)) row) (λ y. Ok (record { row = row; first = y })) }
     {
-        let outside = Fault::plain(Cause::OutsideEra, Self::KIND);
+        let outside = Fault::plain(Cause::OutsideEra, Table::KIND);
         let date = self.below.date_on(row.first).map_err(|_| outside)?;
         if date.era() != 0 {
             return Err(outside);
@@ -78,7 +77,7 @@ impl<C: Calendar> Era<C> {
         ensures { result ≡ reckoned self.now.table (meaning (C.Calendar.pile self.now.below)) era below }
     {
         if below.era() != 0 {
-            return Err(Fault::plain(Cause::NoDate, Self::KIND));
+            return Err(Fault::plain(Cause::NoDate, Table::KIND));
         }
         match self.table.row(era) {
             Some(row) => self.beginning(row)?.raise(era, &below),
@@ -94,7 +93,7 @@ impl<C: Calendar> Era<C> {
             return Ok(date);
         }
         let row = self.table.row(date.era());
-        let row = row.ok_or(Fault::misfit(Field::Era, Self::KIND))?;
+        let row = row.ok_or(Fault::misfit(Field::Era, Table::KIND))?;
         self.beginning(row)?.lower(&date)
     }
 }
@@ -106,7 +105,7 @@ impl<C: Calendar> Calendar for Era<C> {
 
     fn date_on(&self, day: i32) -> Result<Date, Fault> {
         if !in_range(day) {
-            return Err(Fault::plain(Cause::OutsideRange, Self::KIND));
+            return Err(Fault::plain(Cause::OutsideRange, Table::KIND));
         }
         let below = hand_on(self.below.date_on(day))?;
         self.reckon(self.table.era_on(day), below)

@@ -1,6 +1,6 @@
 ghost use Rattle.std.specs.Prelude.{◌≡◌, pos, ◌+ℤ◌, ◌-ℤ◌};
 ghost use Rattle.calendar.specs.Piles.{meaning, calendar as calendar_of};
-ghost use Rattle.calendar.specs.Styles.{style_kind, mark_of, renumbered, restyled, numbered_back, unstyled, styled};
+ghost use Rattle.calendar.specs.Styles.{mark_of, renumbered, restyled, numbered_back, unstyled, styled};
 ghost use Rattle.layer.specs.Sounding.{style_sound};
 ghost use Rattle.layer.specs.StyleRules.{style_fits, ruled, year_style};
 
@@ -9,7 +9,7 @@ use date::dates::Date;
 use date::dates::making::{DAY_TO, MONTH_TO};
 use date::days::in_range;
 use date::faults::{Cause, Fault, Field};
-use date::refusals::hand_on;
+use date::refusals::{hand_on, instead};
 
 // The range of what is added to a year.
 pub const ADDITION_FROM: i64 = -9_999;
@@ -26,8 +26,6 @@ pub struct StyleRule {
 
 impl Kind for StyleRule {
     const KIND: u8 = 9;
-
-    ghost KIND = { style_kind };
 }
 
 fn fits(month: i64, day: i64, addition: i64) -> bool
@@ -77,9 +75,8 @@ impl StyleRule {
         ensures { result ≡ renumbered (year_style self.now) mark below.now }
     {
         let year = self.year_above(below.year(), mark);
-        below
-            .with(0, year, i64::from(mark))
-            .map_err(|_| Fault::plain(Cause::NoDate, Self::KIND))
+        let date = below.with(0, year, i64::from(mark));
+        instead(date, Fault::plain(Cause::NoDate, Self::KIND))
     }
 
     fn restyle(&self, below: &Date) -> Result<Date, Fault>
@@ -96,8 +93,8 @@ impl StyleRule {
         ensures { result ≡ numbered_back (year_style self.now) date.now }
     {
         let year = self.year_below(date.year(), date.mark());
-        date.with(0, year, 0)
-            .map_err(|_| Fault::misfit(Field::Year, Self::KIND))
+        let below = date.with(0, year, 0);
+        instead(below, Fault::misfit(Field::Year, Self::KIND))
     }
 
     fn unstyle(&self, date: &Date) -> Result<Date, Fault>
@@ -121,8 +118,6 @@ pub struct Style<C: Calendar> {
 
 impl<C: Calendar> Kind for Style<C> {
     const KIND: u8 = StyleRule::KIND;
-
-    ghost KIND = { style_kind };
 }
 
 impl<C: Calendar> Style<C> {
@@ -140,7 +135,7 @@ impl<C: Calendar> Calendar for Style<C> {
 
     fn date_on(&self, day: i32) -> Result<Date, Fault> {
         if !in_range(day) {
-            return Err(Fault::plain(Cause::OutsideRange, Self::KIND));
+            return Err(Fault::plain(Cause::OutsideRange, StyleRule::KIND));
         }
         let below = hand_on(self.below.date_on(day))?;
         self.rule.restyle(&below)

@@ -1,6 +1,6 @@
 -- The Hebrew months fill their years, and the years follow each other without a gap.
-use Rattle.std.specs.Prelude.{◌≡◌, ℕ, zero, suc, ◌+◌, ◌≤◌, Bool, true, false, ℤ, pos, negsuc, ◌+ℤ◌, ◌≤ℤ◌, unsigned_abs, refl}
-use Rattle.std.proofs.Common.{arith, inl, inr, sym, subst, add-one, sub-one}
+use Rattle.std.specs.Prelude.{◌≡◌, ℕ, zero, suc, ◌+◌, ◌*◌, ◌≤◌, Bool, true, false, ℤ, pos, negsuc, ◌+ℤ◌, ◌-ℤ◌, ◌≤ℤ◌, unsigned_abs, refl}
+use Rattle.std.proofs.Common.{arith, inl, inr, sym, ap, subst, ◌∙◌, add-one, sub-one}
 use Rattle.std.specs.Int.Signed.{le_z_yes}
 use Rattle.std.proofs.lemmas.Int.{ints}
 use Rattle.date.specs.Division.{remainder}
@@ -9,11 +9,15 @@ use Rattle.reckoning.specs.Rules.{Sound, InYears}
 use Rattle.lunar.specs.Hebrew.{new_year, year_days, before_year, hebrew}
 use Rattle.lunar.specs.HebrewMonths.{days, of_first, before_month}
 use Rattle.lunar.specs.HebrewYears.{Length, Regular}
-use Rattle.lunar.specs.Molad.{leap, weekday}
+use Rattle.lunar.specs.Molad.{leap, epoch, weekday}
 use Rattle.lunar.specs.NewYears.{year_fits, year_lengths, allowed_days}
 
 pub few : (l : Bool) (n m : ℕ) → days l n m ≤ 30
 few l n m = grind arith
+
+pub before_small : (l : Bool) (n k : ℕ) → of_first (days l n) k ≤ 30 * k
+before_small l n zero = omega arith
+before_small l n (suc k) = let a = before_small l n k in let b = few l n (suc k) in omega arith
 
 -- the months of a year make up its days
 months_fill : (l : Bool) (n : ℕ) → Length l n → of_first (days l n) 13 ≡ n
@@ -24,7 +28,7 @@ months_fill false n (inl e) = rw e refl
 months_fill false n (inr (inl e)) = rw e refl
 months_fill false n (inr (inr e)) = rw e refl
 
-month_more : (l : Bool) (n m : ℕ) → 1 ≤ m → before_month l n (m + 1) ≡ before_month l n m + days l n m
+pub month_more : (l : Bool) (n m : ℕ) → 1 ≤ m → before_month l n (m + 1) ≡ before_month l n m + days l n m
 month_more l n zero h = absurd (omega arith)
 month_more l n (suc k) h = simp (add-one, sub-one)
 
@@ -39,7 +43,7 @@ week a =
     let l = remainder_lt day 7 (omega arith) in
     omega (arith, ints)
 
-regular : (y : ℤ) → pos 1 ≤ℤ y → Regular y (year_days (unsigned_abs y))
+pub regular : (y : ℤ) → pos 1 ≤ℤ y → Regular y (year_days (unsigned_abs y))
 regular (negsuc a) h = absurd (omega (arith, ints))
 regular (pos a) h =
     let i : 1 ≤ a = omega (arith, ints) in
@@ -74,3 +78,10 @@ hebrew_sound = record {
 
 pub regular_by : (y : ℤ) (n : ℕ) → pos 1 ≤ℤ y → n ≡ year_days (unsigned_abs y) → Regular y n
 regular_by y n h e = let P : ℕ → Type 0 = λ x. Regular y x in subst P (sym e) (regular y h)
+
+-- the count in natural numbers
+pub count_is : (y : ℤ) (n d : ℕ) → pos n ≡ y → d ≡ new_year n → pos d -ℤ pos 1373428 ≡ before_year y
+count_is y n d e f = back d ∙ ap (λ x. epoch +ℤ pos x -ℤ pos 1) (f ∙ ap (λ z. new_year (unsigned_abs z)) e)
+  where
+    back : (d : ℕ) → pos d -ℤ pos 1373428 ≡ epoch +ℤ pos d -ℤ pos 1
+    back d = omega (arith, ints)

@@ -1,5 +1,5 @@
 -- The Islamic months and years follow each other without a gap.
-use Rattle.std.specs.Prelude.{◌≡◌, ℕ, ◌+◌, ◌<◌, ◌≤◌, Bool, true, false, ℤ, pos, ◌+ℤ◌, ◌*ℤ◌, nat_lt, refl}
+use Rattle.std.specs.Prelude.{◌≡◌, ℕ, ◌+◌, ◌*◌, ◌/◌, ◌%◌, ◌<◌, ◌≤◌, Bool, true, false, ℤ, pos, ◌+ℤ◌, ◌-ℤ◌, ◌*ℤ◌, nat_lt, refl}
 use Rattle.std.proofs.Common.{arith}
 use Rattle.std.specs.Int.Signed.{le_z_yes}
 use Rattle.std.proofs.lemmas.Int.{ints}
@@ -42,3 +42,12 @@ islamic_sound = record {
   start_fits = le_z_yes tt;
   end_fits = le_z_yes tt;
 }
+
+-- the count and the test in natural numbers
+pub count_is : (y : ℤ) (n a : ℕ) → pos n ≡ y -ℤ pos 1 → a ≡ (11 * n + 14) / 30 → pos (227014 + 354 * n + a) ≡ before_year y
+count_is y n a e p =
+    let same : pos 11 *ℤ y +ℤ pos 3 ≡ pos (11 * n + 14) = omega (arith, ints) in
+    rw (same, ← e) (omega (arith, ints))
+
+pub leap_is : (y : ℤ) (n : ℕ) → pos n ≡ y → nat_lt ((11 * n + 14) % 30) 11 ≡ leap y
+leap_is y n e = let same : pos 11 *ℤ y +ℤ pos 14 ≡ pos (11 * n + 14) = omega (arith, ints) in rw same refl

@@ -1,8 +1,13 @@
 -- From one molad to the next year's: the months between them, and the days and parts that these make.
-use Rattle.std.specs.Prelude.{◌≡◌, ℕ, ◌+◌, ◌-◌, ◌*◌, ◌%◌, ◌≤◌, Bool, true, false, cond, nat_le}
-use Rattle.std.proofs.Common.{arith}
+use Rattle.std.specs.Prelude.{◌≡◌, ℕ, ◌+◌, ◌-◌, ◌*◌, ◌/◌, ◌%◌, ◌<◌, ◌≤◌, Bool, true, false, cond, nat_le}
+use Rattle.std.proofs.Common.{arith, ap, ◌∙◌}
+use Rattle.std.proofs.Math.Arith.{digits_div, digits_mod}
 use Rattle.date.proofs.Divisions.{one_if}
 use Rattle.lunar.specs.Molad.{leap, months_before, molad_day, molad_part, weekday}
+
+-- a division by its quotient and remainder
+pub division : (n k q r : ℕ) → n ≡ q * k + r → r < k → (n / k ≡ q) × (n % k ≡ r)
+division n k q r e h = (ap (λ x. x / k) e ∙ digits_div q h, ap (λ x. x % k) e ∙ digits_mod q h)
 
 -- twelve months to a common year, and thirteen to a leap year
 abbrev months : Bool → ℕ

@@ -82,7 +82,7 @@ next_year y h =
     let week = week_more (molad_day y) (whole (leap y) + carry (leap y) (molad_part y)) in
     rw (same, n.0, n.1, week) (omega arith)
 
-this_year : (y : ℕ) → new_year y ≡ molad_day y + off (leap y) (leap (y - 1)) (weekday (molad_day y)) (molad_part y)
+pub this_year : (y : ℕ) → new_year y ≡ molad_day y + off (leap y) (leap (y - 1)) (weekday (molad_day y)) (molad_part y)
 unfolding new_year off
 this_year y = refl
 
@@ -142,7 +142,7 @@ allowed_days y =
     rw (e, f) (not-true _ (along (landing_stretch l k) P (lands_along l k) 0 limits (all_land l k) (molad_part y) (omega arith) (omega arith) (weekday (molad_day y)) (omega arith)))
 
 -- sizes
-delay_small : (l k : Bool) (w p : ℕ) → delay l k w p ≤ 2
+pub delay_small : (l k : Bool) (w p : ℕ) → delay l k w p ≤ 2
 delay_small l k w p = grind arith
 
 pub new_year_small : (y : ℕ) → 1 ≤ y → y ≤ 100000 → new_year y ≤ 36600002

@@ -22,8 +22,6 @@ pub struct Hebrew;
 
 impl Kind for Hebrew {
     const KIND: u8 = 5;
-
-    ghost KIND = { 5 };
 }
 
 // The months of a Hebrew year, by whether it is leap and by how many days it has.
@@ -78,8 +76,11 @@ impl Months for HebrewMonths {
             .sum()
     }
 
+    // By mean months, of which a common year leaves out the sixth.
     fn month_near(&self, nth: u16) -> u8 {
-        (divide(2 * u64::from(nth), 59).0 + 1).min(13) as u8
+        let near = divide(2 * u64::from(nth), 59).0 + 1;
+        let left_out = u64::from(!self.leap && near >= 7);
+        (near + left_out).min(13) as u8
     }
 }
 

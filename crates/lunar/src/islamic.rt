@@ -17,8 +17,6 @@ pub struct Islamic;
 
 impl Kind for Islamic {
     const KIND: u8 = 4;
-
-    ghost KIND = { 4 };
 }
 
 // The months have 30 and 29 days in turn, and in a leap year the last has 30.

@@ -1,23 +1,21 @@
 -- What `find` asks of its test along a range of whole numbers, and what it finds.
-use Rattle.std.proofs.Common.{◌≡◌, ℕ, ◌+◌, ◌-◌, ◌<◌, ◌≤◌, ℤ, pos, negsuc, ◌+ℤ◌, ◌≤ℤ◌, ◌<ℤ◌, Bool, true, false, List, [], ◌∷◌, ◌⊎◌, inl, inr, ⊎_elim, Option, Some, None, MatchOption, IfSome, Bor, refl, sym, subst, ap, ◌∙◌, arith}
+use Rattle.std.proofs.Common.{◌≡◌, ◌<◌, ℤ, pos, negsuc, ◌+ℤ◌, ◌≤ℤ◌, ◌<ℤ◌, Bool, true, false, List, [], ◌∷◌, ◌⊎◌, inl, inr, ⊎_elim, Option, Some, None, MatchOption, IfSome, Bor, refl, sym, subst, ap, ◌∙◌, arith}
 use denote.Param.Members.{Mut}
 use Rattle.std.proofs.lemmas.Int.{ints}
-use Rattle.std.proofs.lemmas.Bool.{cases_order, true≢false}
 use Rattle.std.specs.declared.iter.Rev.{Rev}
 use Rattle.std.specs.declared.ops.Range.{Range}
-use Rattle.std.specs.declared.ops.RangeInclusive.{RangeInclusive}
 use Rattle.std.specs.Fn.{CalledAt}
 use Rattle.std.specs.Int.{int_gap}
 use Rattle.std.specs.Iterator.{Yields, FindsItem, CallableAtEachTurn}
 use Rattle.std.specs.Iterator.Adapters.{rev_source, rev_steps}
 use Rattle.std.specs.List.{FoldsTo}
-use Rattle.std.specs.Range.{range_inclusive_start, range_inclusive_end, range_inclusive_exhausted, range_inclusive_left, range_inclusive_len, range_steps, range_inclusive_steps_back}
+use Rattle.std.specs.Range.{range_steps, range_steps_back}
 
 abbrev ups : Range ℤ → Option ℤ → Range ℤ → Type 0
 ups = range_steps int_gap (λ x y. y ≡ x +ℤ pos 1)
 
-abbrev downs : Rev (RangeInclusive ℤ) → Option ℤ → Rev (RangeInclusive ℤ) → Type 0
-downs = rev_steps (range_inclusive_steps_back int_gap (λ x y. y ≡ x +ℤ pos 1))
+abbrev downs : Rev (Range ℤ) → Option ℤ → Rev (Range ℤ) → Type 0
+downs = rev_steps (range_steps_back int_gap (λ x y. y ≡ x +ℤ pos 1))
 
 -- ---- how far a range goes
 
@@ -33,23 +31,6 @@ not_above (pos a) (negsuc b) h = omega (arith, ints)
 not_above (negsuc a) (pos b) h = absurd (omega arith)
 not_above (negsuc a) (negsuc b) h = omega (arith, ints)
 
-to_last : (a b : ℤ) (n : ℕ) → n + 1 ≡ int_gap a b + 1 - int_gap b a → b ≡ a +ℤ pos n
-to_last (pos a) (pos b) n h = omega (arith, ints)
-to_last (pos a) (negsuc b) n h = absurd (omega arith)
-to_last (negsuc a) (pos b) n h = omega (arith, ints)
-to_last (negsuc a) (negsuc b) n h = omega (arith, ints)
-
-ends : (a b : ℤ) (spent : Bool) (n : ℕ) → n + 1 ≡ range_inclusive_len int_gap a b spent → b ≡ a +ℤ pos n
-ends a b true n h = absurd (omega arith)
-ends a b false n h = to_last a b n h
-
-some_left : (a b : ℤ) (spent : Bool) → spent ≡ false → a ≤ℤ b → 0 < range_inclusive_len int_gap a b spent
-some_left a b true e h = absurd (true≢false e)
-some_left (pos a) (pos b) false e h = omega (arith, ints)
-some_left (pos a) (negsuc b) false e h = absurd (omega (arith, ints))
-some_left (negsuc a) (pos b) false e h = omega (arith, ints)
-some_left (negsuc a) (negsuc b) false e h = omega (arith, ints)
-
 -- ---- what passes, where the calls leave the test as it was
 
 still : {F A : Type 0} (R : F → A → F → Type 0) (f : F) → ((x : A) (q : F) → R f x q → q ≡ f) → (xs : List A) (q : F) → FoldsTo R f xs q → q ≡ f
@@ -61,51 +42,48 @@ pub passes : {S F A : Type 0} (steps : S → Option A → S → Type 0) {g : Mut
 passes steps s u f None Yes d yes' no' = tt
 passes steps {g} s u f (Some x) Yes d yes' no' = yes' x d.4.0 (subst (λ k. CalledAt g k x true d.4.0) (still (λ p x q. CalledAt g p x false q) f no' d.0 d.1 d.3) d.4.1)
 
--- ---- from the end back
+-- ---- from the end back, each number the end at a call that answered false
 
-abbrev low : Rev (RangeInclusive ℤ) → ℤ
-low s = range_inclusive_start (rev_source s)
+abbrev low : Rev (Range ℤ) → ℤ
+low s = (rev_source s).start
 
-abbrev high : Rev (RangeInclusive ℤ) → ℤ
-high s = range_inclusive_end (rev_source s)
+abbrev high : Rev (Range ℤ) → ℤ
+high s = (rev_source s).end
 
-abbrev left : Rev (RangeInclusive ℤ) → ℕ
-left s = range_inclusive_left {A = ℤ} int_gap (rev_source s)
-
-gone_down : {P : Type 0} (R : P → ℤ → P → Type 0) (No : ℤ → Type 0) (p : P) → ((x : ℤ) (q : P) → R p x q → (q ≡ p) × No x) → (xs : List ℤ) (s t : Rev (RangeInclusive ℤ)) (q : P) → Yields downs s xs t → FoldsTo R p xs q
-    → (low t ≡ low s) × (left t ≤ left s) × (q ≡ p) × ((left t < left s) → No (low s +ℤ pos (left t)))
-gone_down R No p h [] s t q y c = let e : left t ≡ left s = sym (ap left y) in (sym (ap low y), omega (arith, e), sym c, λ l. absurd (omega (arith, e)))
-gone_down R No p h (x ∷ xs) s t q y c =
+gone_down : {P : Type 0} (R : P → ℤ → P → Type 0) (No : ℤ → Type 0) (p : P) → ((x : ℤ) (q : P) → R p x q → (q ≡ p) × No x) → (xs : List ℤ) (s t : Rev (Range ℤ)) (q : P) → Yields downs s xs t → FoldsTo R p xs q → low s ≤ℤ high s
+    → (low t ≡ low s) × (low t ≤ℤ high t) × (high t ≤ℤ high s) × (q ≡ p) × ((high t ≡ high s) ⊎ No (high t))
+gone_down R No p h [] s t q y c l =
+    let d : low t ≡ low s = sym (ap low y) in
+    let e : high t ≡ high s = sym (ap high y) in
+    (d, omega (arith, ints, d, e), omega (arith, ints, e), sym c, inl e)
+gone_down R No p h (x ∷ xs) s t q y c l =
+    let g = above (low s) (high s) y.1.1.0 in
     let k = h x c.0 c.1 in
-    let r = gone_down R No p h xs y.0 t q y.2 (subst (λ k. FoldsTo R k xs q) k.0 c.2) in
-    let b = ends (low s) (high s) (range_inclusive_exhausted (rev_source s)) (left y.0) y.1.1.1 in
-    let e : x ≡ low s +ℤ pos (left y.0) = y.1.1.0 ∙ b in
-    (r.0 ∙ y.1.0, omega (arith, r.1, y.1.1.1), r.2, λ l. ⊎_elim (λ m. subst No (omega (arith, ints, e, m)) k.1) (⊎_elim (λ m. subst No (omega (arith, ints, r.0, y.1.0)) (r.3 m)) (λ m. absurd (omega (arith, m, r.1)))) (cases_order (left t) (left y.0)))
+    let r = gone_down R No p h xs y.0 t q y.2 (subst (λ k. FoldsTo R k xs q) k.0 c.2) (omega (arith, ints, y.1.0, y.1.1.2)) in
+    (r.0 ∙ y.1.0, r.1, omega (arith, ints, r.2, y.1.1.2), r.3, ⊎_elim (λ e. inr (subst No (omega (arith, ints, e, y.1.1.1)) k.1)) inr r.4)
 
-pub asked_down : {P : Type 0} {R : P → ℤ → P → Type 0} {Q : P → ℤ → Type 0} {s : Rev (RangeInclusive ℤ)} {p : P}
-    → ((x : ℤ) (q : P) → R p x q → q ≡ p) → ((x : ℤ) → low s ≤ℤ x → x ≤ℤ high s → Q p x) → CallableAtEachTurn downs R Q s p
-asked_down {P} {R} {Q} {s} {p} stays h = record {
+pub asked_down : {P : Type 0} {R : P → ℤ → P → Type 0} {Q : P → ℤ → Type 0} {s : Rev (Range ℤ)} {p : P}
+    → low s ≤ℤ high s → ((x : ℤ) (q : P) → R p x q → q ≡ p) → ((x : ℤ) → low s ≤ℤ x → x <ℤ high s → Q p x) → CallableAtEachTurn downs R Q s p
+asked_down {P} {R} {Q} {s} {p} l stays h = record {
   at = λ xs t q x u y c e.
-      let w = gone_down R (λ _. Unit {0}) p (λ x q k. (stays x q k, tt)) xs s t q y c in
-      let a = ends (low t) (high t) (range_inclusive_exhausted (rev_source t)) (left u) e.1.1 in
-      let b = ends (low s) (high s) (range_inclusive_exhausted (rev_source s)) (left s - 1) (omega (arith, w.1, e.1.1)) in
-      subst (λ k. Q k x) (sym w.2) (h x (omega (arith, ints, w.0, a, e.1.0)) (omega (arith, ints, w.0, w.1, a, b, e.1.0, e.1.1)));
+      let w = gone_down R (λ _. Unit {0}) p (λ x q k. (stays x q k, tt)) xs s t q y c l in
+      let a = above (low t) (high t) e.1.0 in
+      subst (λ k. Q k x) (sym w.3) (h x (omega (arith, ints, w.0, e.1.1, e.1.2)) (omega (arith, ints, w.2, e.1.1, e.1.2)));
 }
 
 -- none passes only if the first does not
-pub found_down : {F : Type 0} {g : Mut F (Bor ℤ × Unit {0}) Bool} (s u : Rev (RangeInclusive ℤ)) (f : F) (r : Option ℤ) (Yes No : ℤ → Type 0) → FindsItem downs g s f r u → range_inclusive_exhausted (rev_source s) ≡ false → low s ≤ℤ high s
+pub found_down : {F : Type 0} {g : Mut F (Bor ℤ × Unit {0}) Bool} (s u : Rev (Range ℤ)) (f : F) (r : Option ℤ) (Yes No : ℤ → Type 0) → FindsItem downs g s f r u → low s <ℤ high s
     → ((x : ℤ) (q : F) → CalledAt g f x true q → Yes x) → ((x : ℤ) (q : F) → CalledAt g f x false q → (q ≡ f) × No x)
-    → MatchOption r (No (low s)) (λ x. (low s ≤ℤ x) × (x ≤ℤ high s) × Yes x)
-found_down {F} {g} s u f None Yes No d o l yes' no' =
-    let w = gone_down (λ p x q. CalledAt g p x false q) No f no' d.0 s d.2.0 d.1 d.2.1 d.3 in
-    let z : left d.2.0 ≡ 0 = d.2.2.1.0 in
-    subst No (omega (arith, ints, z)) (w.3 (omega (arith, z, some_left (low s) (high s) _ o l)))
-found_down {F} {g} s u f (Some x) Yes No d o l yes' no' =
-    let w = gone_down (λ p x q. CalledAt g p x false q) No f no' d.0 s d.2.0 d.1 d.2.1 d.3 in
-    let e = d.2.2 in
-    let a = ends (low d.2.0) (high d.2.0) (range_inclusive_exhausted (rev_source d.2.0)) (left u) e.1.1 in
-    let b = ends (low s) (high s) (range_inclusive_exhausted (rev_source s)) (left s - 1) (omega (arith, some_left (low s) (high s) _ o l)) in
-    (omega (arith, ints, w.0, a, e.1.0), omega (arith, ints, w.0, w.1, a, b, e.1.0, e.1.1), yes' x d.4.0 (subst (λ k. CalledAt g k x true d.4.0) w.2 d.4.1))
+    → MatchOption r (No (low s)) (λ x. (low s ≤ℤ x) × (x <ℤ high s) × Yes x)
+found_down {F} {g} s u f None Yes No d l yes' no' =
+    let w = gone_down (λ p x q. CalledAt g p x false q) No f no' d.0 s d.2.0 d.1 d.2.1 d.3 (omega (arith, ints)) in
+    let a = not_above (low d.2.0) (high d.2.0) d.2.2.1.0 in
+    ⊎_elim (λ e. absurd (omega (arith, ints, e, w.0))) (λ k. subst No (omega (arith, ints, w.0, w.1)) k) w.4
+found_down {F} {g} s u f (Some x) Yes No d l yes' no' =
+    let w = gone_down (λ p x q. CalledAt g p x false q) No f no' d.0 s d.2.0 d.1 d.2.1 d.3 (omega (arith, ints)) in
+    let e = d.2.2.1 in
+    let a = above (low d.2.0) (high d.2.0) e.0 in
+    (omega (arith, ints, w.0, e.1, e.2), omega (arith, ints, w.2, e.1, e.2), yes' x d.4.0 (subst (λ k. CalledAt g k x true d.4.0) w.3 d.4.1))
 
 -- ---- from the start on, each next number at a call that answered false
 

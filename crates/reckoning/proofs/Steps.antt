@@ -1,11 +1,12 @@
 -- The steps of the conversion: corrections of the hints, and how far its numbers reach.
 use Rattle.std.proofs.Common.{◌≡◌, ℕ, zero, suc, ◌+◌, ◌-◌, ◌*◌, ◌<◌, ◌≤◌, ℤ, pos, ◌+ℤ◌, ◌-ℤ◌, ◌≤ℤ◌, ◌<ℤ◌, true, false, Result, ◌⊎◌, Option, Some, None, MatchOption, unwrap_or, int_lt, subst, sym, refl, ap, ◌∙◌, ⊎_elim, arith, w32, w64, SFits, to_z, of_z}
-use Rattle.std.proofs.lemmas.Int.{ints}
+use Rattle.std.proofs.lemmas.Int.{ints, to_z-of_z}
 use Rattle.std.proofs.lemmas.Bool.{and_from, and_left, and_right, cases_order, cond-true}
 use Rattle.date.specs.declared.dates.Date.{Date}
 use Rattle.date.specs.declared.faults.Fault.{Fault}
 use Rattle.date.specs.Dated.{dated}
 use Rattle.date.specs.Days.{within}
+use Rattle.date.specs.Fields.{year_from, year_to}
 use Rattle.reckoning.specs.Orders.{lt_is, is_lt, is_le, not_le}
 use Rattle.reckoning.specs.Reckoned.{has_day, on}
 use Rattle.reckoning.specs.Faiths.{found_on}
@@ -33,7 +34,7 @@ month_start r before y z x m k a h e f p q =
     omega (arith, ints)
 
 -- the last year holds a day that comes after its start, and by the end
-by_last : (r : Rule) (y n : ℤ) → InYears r y → r.start y 1 <ℤ n → last_year r ≤ℤ y → n ≤ℤ end r → HoldsYear r n y
+pub by_last : (r : Rule) (y n : ℤ) → InYears r y → r.start y 1 <ℤ n → last_year r ≤ℤ y → n ≤ℤ end r → HoldsYear r n y
 by_last r y n h a l b =
     let to = h.to in
     let e : y ≡ last_year r = omega (arith, ints) in
@@ -146,3 +147,15 @@ wider_nat x m l h = omega (arith, ints)
 -- the day of the month: the kth day of the year, less the days before the month
 pub of_month : (r : Rule) (y n x : ℤ) (m k a b : ℕ) → pos k ≡ n -ℤ r.start y 1 → k < 65536 → b < k → a ≡ b → r.start y m ≡ r.start y 1 +ℤ pos b → x ≡ pos (k - a) → to_z w64 (of_z w64 x) ≡ n -ℤ r.start y m
 of_month r y n x m k a b e u l q f h = omega (arith, ints)
+
+-- ---- a year before the last, and the next, as the code holds them
+
+fits_before : (a b y : ℤ) → year_from ≤ℤ a → b ≤ℤ year_to → a ≤ℤ y → y <ℤ b → SFits w32 y × SFits w32 (y +ℤ pos 1)
+fits_before a b y l h i j = (omega (arith, ints), omega (arith, ints))
+
+pub next_year : (r : Rule) → Sound r → (y : ℤ) → r.first ≤ℤ y → y <ℤ last_year r → SFits w32 (to_z w32 (of_z w32 y) +ℤ pos 1) × InYears r (to_z w32 (of_z w32 (to_z w32 (of_z w32 y) +ℤ pos 1)))
+next_year r s y from to =
+    let f = fits_before r.first (last_year r) y s.first_fits s.last_fits from to in
+    let e = to_z-of_z w32 y f.0 in
+    let h : InYears r (y +ℤ pos 1) = record { from = omega (arith, ints); to = omega (arith, ints) } in
+    (subst (λ v. SFits w32 (v +ℤ pos 1)) (sym e) f.1, subst (InYears r) (sym (ap (λ v. to_z w32 (of_z w32 (v +ℤ pos 1))) e ∙ to_z-of_z w32 _ f.1)) h)

@@ -1,7 +1,7 @@
 ghost use Rattle.std.specs.Prelude.{◌≡◌, ℕ, ◌≤◌};
 
 // The months of one year: how many there are, how long each is, and how many days of the year come before each.
-pub trait Months: Copy {
+pub trait Months: Drop {
     ghost months: { Self → ℕ };
 
     ghost length: { Self → ℕ → ℕ };

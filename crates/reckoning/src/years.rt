@@ -1,4 +1,4 @@
-ghost use Rattle.std.specs.Prelude.{◌≡◌, ◌+◌, ◌-◌, ◌<◌, ◌≤◌, pos, ◌≤ℤ◌};
+ghost use Rattle.std.specs.Prelude.{◌≡◌, ◌+◌, ◌-◌, ◌<◌, ◌≤◌, ◌&&◌, pos, ◌≤ℤ◌, int_le};
 
 // The years that a date of a calendar may have whose first year is year 1.
 pub const FIRST: i32 = 1;
@@ -12,6 +12,15 @@ pub struct Outline {
     pub first: i32,
     pub last: i32,
     pub last_day: i32,
+}
+
+impl Outline {
+    // Whether the year is one of the calendar's.
+    pub(crate) fn has_year(&self, year: i32) -> bool
+        ensures { result ≡ (int_le self.now.first year && int_le year self.now.last) }
+    {
+        self.first <= year && year <= self.last
+    }
 }
 
 // A year of a calendar whose first year is year 1, or the one after the last, whose start ends it.

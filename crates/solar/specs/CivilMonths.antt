@@ -47,6 +47,11 @@ last_month : (leap : Bool) → before_month leap 12 ≡ pos (334 + one_if leap)
 last_month true = refl
 last_month false = refl
 
+-- the days of the year before a month are few
+pub few_before : (leap : Bool) (m : ℕ) → 1 ≤ m → m ≤ 12 → (pos 0 ≤ℤ before_month leap m) × (before_month leap m ≤ℤ pos 400)
+few_before true m h l = (grind (arith, ints), grind (arith, ints))
+few_before false m h l = (grind (arith, ints), grind (arith, ints))
+
 module _ (kind : ℕ) (before : ℤ → ℤ) (leap : ℤ → Bool) where
   pub civil_sound : ((y : ℤ) → before (y +ℤ pos 1) ≡ before y +ℤ pos (365 + one_if (leap y))) → negsuc 999999999 ≤ℤ (before (pos 1) +ℤ pos 0) → (before (pos 100000) +ℤ pos 0) ≤ℤ pos 1000000000 → Sound (civil kind before leap)
   civil_sound turns low high = record {

@@ -1,5 +1,5 @@
 -- The Coptic count of years turns over by 365 days, and in a leap year by one more.
-use Rattle.std.specs.Prelude.{◌≡◌, ◌+◌, Bool, true, false, ℤ, pos, ◌+ℤ◌, ◌==◌, refl}
+use Rattle.std.specs.Prelude.{◌≡◌, ℕ, ◌+◌, ◌-◌, ◌*◌, ◌/◌, ◌%◌, ◌≤◌, Bool, true, false, ℤ, pos, ◌+ℤ◌, ◌==◌, refl}
 use Rattle.std.proofs.Common.{arith}
 use Rattle.std.specs.Int.Signed.{le_z_yes}
 use Rattle.std.proofs.lemmas.Int.{ints}
@@ -21,3 +21,12 @@ turns y = by (remainder y 4 == 3) refl
 pub coptic_sound : Sound coptic
 unfolding before_year
 coptic_sound = thirty_sound 3 before_year leap turns (le_z_yes tt) (le_z_yes tt)
+
+-- the count and the test in natural numbers
+pub count_is : (y : ℤ) (n a : ℕ) → pos n ≡ y → 1 ≤ n → a ≡ n / 4 → pos (103604 + 365 * (n - 1) + a) ≡ before_year y
+unfolding before_year
+count_is y n a e h p = rw (← e) (omega (arith, ints))
+
+pub leap_is : (y : ℤ) (n : ℕ) → pos n ≡ y → (n % 4 == 3) ≡ leap y
+unfolding leap
+leap_is y n e = rw (← e) refl

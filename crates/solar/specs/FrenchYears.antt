@@ -1,5 +1,5 @@
 -- The French count of years turns over by 365 days, and in a leap year by one more.
-use Rattle.std.specs.Prelude.{◌≡◌, ◌+◌, Bool, true, false, not, ◌&&◌, ◌||◌, ℤ, pos, ◌+ℤ◌, ◌-ℤ◌, refl}
+use Rattle.std.specs.Prelude.{◌≡◌, ℕ, ◌+◌, ◌/◌, ◌%◌, Bool, true, false, not, ◌&&◌, ◌||◌, ℤ, pos, ◌+ℤ◌, ◌-ℤ◌, ◌==◌, refl}
 use Rattle.std.proofs.Common.{arith, sym}
 use Rattle.std.specs.Int.Signed.{le_z_yes}
 use Rattle.std.proofs.lemmas.Int.{ints}
@@ -42,3 +42,13 @@ turns y =
 pub french_sound : Sound french
 unfolding before_year before_gregorian
 french_sound = thirty_sound 6 before_year leap turns (le_z_yes tt) (le_z_yes tt)
+
+-- the test in natural numbers
+pub leap_is : (y : ℤ) (n : ℕ) → pos n ≡ y → (gregorian_leap y && not (n % 4000 == 0)) ≡ leap y
+unfolding leap
+leap_is y n e = rw (← e) refl
+
+-- the count with the 4,000th years counted in natural numbers
+pub count_is : (y : ℤ) (n a : ℕ) → pos n ≡ y -ℤ pos 1 → a ≡ n / 4000 → pos 654414 +ℤ before_gregorian y -ℤ pos a ≡ before_year y
+unfolding before_year
+count_is y n a e p = rw (← e, p) refl

@@ -1,5 +1,5 @@
 -- The weeks of a year: 52 or 53, from a Monday on.
-use Rattle.std.specs.Prelude.{◌≡◌, ℕ, ◌+◌, ◌≤◌, Bool, true, false, cond, ◌⊎◌, ℤ, pos, ◌+ℤ◌, ◌-ℤ◌, ◌==◌, unsigned_abs, refl}
+use Rattle.std.specs.Prelude.{◌≡◌, ℕ, ◌+◌, ◌-◌, ◌%◌, ◌≤◌, Bool, true, false, cond, ◌⊎◌, ℤ, pos, ◌+ℤ◌, ◌-ℤ◌, ◌==◌, unsigned_abs, refl}
 use Rattle.std.proofs.Common.{arith, inl, inr, ⊎_elim, ap, ◌∙◌}
 use Rattle.std.specs.Int.Signed.{le_z_yes}
 use Rattle.std.proofs.lemmas.Int.{ints}
@@ -77,3 +77,16 @@ iso_sound = record {
   start_fits = le_z_yes tt;
   end_fits = le_z_yes tt;
 }
+
+-- the count in natural numbers
+pub count_is : (y : ℤ) (n r : ℕ) → pos n ≡ before_year y → r ≡ (n + 3) % 7 → pos (n + 3 - r) ≡ week_one y -ℤ pos 1
+unfolding week_one
+count_is y n r e p =
+    let third : before_year y +ℤ pos 4 -ℤ pos 1 ≡ pos (n + 3) = omega (arith, ints) in
+    let f : week_one y ≡ before_year y +ℤ pos 4 -ℤ pos (remainder (before_year y +ℤ pos 4 -ℤ pos 1) 7) = refl in
+    let g : remainder (before_year y +ℤ pos 4 -ℤ pos 1) 7 ≡ (n + 3) % 7 = ap (λ z. remainder z 7) third in
+    omega (arith, ints)
+
+-- how far the counts of a year and of the next lie apart
+pub apart : (y a b : ℤ) → a ≡ week_one (y +ℤ pos 1) -ℤ pos 1 → b ≡ week_one y -ℤ pos 1 → ((a -ℤ b ≡ pos 364) × (weeks y ≡ 52)) ⊎ ((a -ℤ b ≡ pos 371) × (weeks y ≡ 53))
+apart y a b e f = ⊎_elim (λ p. inl (omega (arith, ints), p.1)) (λ p. inr (omega (arith, ints), p.1)) (whole y).turns

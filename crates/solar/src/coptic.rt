@@ -13,8 +13,6 @@ pub struct Coptic;
 
 impl Kind for Coptic {
     const KIND: u8 = 3;
-
-    ghost KIND = { coptic.kind };
 }
 
 #[tactic(auto, unfolding(crate::specs::Coptic::leap, crate::specs::Coptic::before_year))]

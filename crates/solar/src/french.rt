@@ -14,8 +14,6 @@ pub struct French;
 
 impl Kind for French {
     const KIND: u8 = 6;
-
-    ghost KIND = { french.kind };
 }
 
 #[tactic(auto, unfolding(crate::specs::French::leap, crate::specs::French::before_year, crate::specs::Gregorian::before_year))]

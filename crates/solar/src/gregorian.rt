@@ -14,8 +14,6 @@ pub struct Gregorian;
 
 impl Kind for Gregorian {
     const KIND: u8 = 1;
-
-    ghost KIND = { gregorian.kind };
 }
 
 // Every fourth year, but of the centuries every fourth.

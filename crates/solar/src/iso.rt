@@ -16,8 +16,6 @@ pub struct Iso;
 
 impl Kind for Iso {
     const KIND: u8 = 7;
-
-    ghost KIND = { iso.kind };
 }
 
 // The weeks of a year, which stand in place of its months.

@@ -13,8 +13,6 @@ pub struct Julian;
 
 impl Kind for Julian {
     const KIND: u8 = 2;
-
-    ghost KIND = { julian.kind };
 }
 
 #[tactic(auto, unfolding(crate::specs::Julian::leap, crate::specs::Julian::before_year))]

@@ -22,7 +22,13 @@ fn day_of<C: Calendar>(calendar: &C, year: i64, month: i64, day: i64) -> Result<
 
 // A refusal as it is first given.
 fn refused(cause: Cause, place: usize, day: i32, kind: u8) -> Result<i32, Fault> {
-    Err(Fault::new(cause, place, day, kind))
+    Err(Fault {
+        cause,
+        place,
+        day,
+        kind,
+        level: 0,
+    })
 }
 
 #[test]
@@ -104,7 +110,13 @@ fn weekdays(rt: HostRuntime) {
     assert_eq!(rt; weekday(1), Ok(1));
     assert_eq!(rt; weekday(639_797), Ok(4));
     assert_eq!(rt; weekday(3_652_059), Ok(5));
-    let outside = Fault::plain(Cause::OutsideRange, 0);
+    let outside = Fault {
+        cause: Cause::OutsideRange,
+        place: 0,
+        day: 0,
+        kind: 0,
+        level: 0,
+    };
     assert_eq!(rt; weekday(0), Err(outside));
     assert_eq!(rt; weekday(3_652_060), Err(outside));
 }
@@ -136,10 +148,12 @@ fn carried_and_spanned(rt: HostRuntime) -> Result<(), Fail> {
 
 #[test]
 fn levels_stop_at_255(rt: HostRuntime) {
-    let first = Fault::plain(Cause::NoDate, 1);
     let high = Fault {
+        cause: Cause::NoDate,
+        place: 0,
+        day: 0,
+        kind: 1,
         level: 254,
-        ..first
     };
     let answer: Result<i32, Fault> = hand_on(hand_on(Err(high)));
     assert_eq!(rt; answer, Err(Fault { level: 255, ..high }));

@@ -6,6 +6,7 @@ use calendar::calendar::Kind;
 use calendar::rows::Row;
 use date::dates::Date;
 use date::faults::{Cause, Fault, Field};
+use date::refusals::instead;
 
 // Where an era begins: its row, and the year below on the row's first day. From there its years are counted.
 #[derive(Clone, Copy)]
@@ -32,9 +33,8 @@ impl Beginning {
         ensures { result ≡ raised era self.now.row self.now.first below.now }
     {
         let year = self.year_above(below.year());
-        below
-            .with(i64::from(era), year, i64::from(below.mark()))
-            .map_err(|_| Fault::plain(Cause::NoDate, Table::KIND))
+        let date = below.with(i64::from(era), year, i64::from(below.mark()));
+        instead(date, Fault::plain(Cause::NoDate, Table::KIND))
     }
 
     // The date of the era as it is below.
@@ -42,7 +42,7 @@ impl Beginning {
         ensures { result ≡ lowered self.now.row self.now.first date.now }
     {
         let year = self.year_below(date.year());
-        date.with(0, year, i64::from(date.mark()))
-            .map_err(|_| Fault::misfit(Field::Year, Table::KIND))
+        let below = date.with(0, year, i64::from(date.mark()));
+        instead(below, Fault::misfit(Field::Year, Table::KIND))
     }
 }

@@ -6,4 +6,4 @@ use Rattle.layer.proofs.table.Table.era_on.Goals as goal
 pub returns : goal.returns
 returns c =
     let h = c.partition_point.ensures in
-    rw (← c.self.view_is, ← c.deref.ensures.0) (era_is _ _ _ (rw c.deref.ensures.0 c.self.invariant) h.bound (λ p. IsPartitionPoint-from_clause (began c.args.day) c.deref.result.now c.partition_point.result h.partitioned p (λ x b f q. search rules)))
+    rw (← c.rows.ensures.rows) (era_is _ _ _ (rw c.rows.ensures.rows c.rows.ensures.fits) h.bound (λ p. IsPartitionPoint-from_clause (began c.args.day) c.rows.result.now c.partition_point.result h.partitioned p (λ x b f q. search rules)))

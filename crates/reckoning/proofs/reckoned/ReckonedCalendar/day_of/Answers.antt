@@ -13,4 +13,4 @@ returns-in_err-ok_or g c =
     let fits : misdated r c.args.date ≡ 0 = search rules in
     let e : c.from_residual-in_err-ok_or.result ≡ Err c.new-2.result = search rules in
     let outside : within (to_z w32 (of_z w32 n)) ≡ false = search rules in
-    e ∙ of_outside r _ c.kind-kind.ensures c.args.date n _ fits c.day_in-day.ensures (simp to_z-of_z at outside) (simp to_z-of_z at c.new-2.ensures)
+    e ∙ of_outside r _ c.outline-outline.ensures.kind c.args.date n _ fits c.day_in-day.ensures (simp to_z-of_z at outside) (simp to_z-of_z at c.new-2.ensures)
