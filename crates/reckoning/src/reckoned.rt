@@ -66,6 +66,14 @@ fn month_of<M: Months>(months: &M, nth: u16) -> u8
     }
 }
 
+// The theorem of arithmetic calendars, at the rule of a reckoning.
+fn faithful_to<R: Reckoning>(by: R) -> Reckoned<R>
+    ensures same { result.by ≡ by }
+    ensures faithful { Faithful (R.Reckoning.rule by) }
+{
+    Reckoned { by }
+}
+
 impl<R: Reckoning> Reckoned<R> {
     // The calendar of a reckoning. Every day of its years has one valid date, both answers are exact, and later days have
     // later dates.
@@ -73,7 +81,7 @@ impl<R: Reckoning> Reckoned<R> {
         ensures same { result.by ≡ by }
         ensures faithful { Faithful (R.Reckoning.rule by) }
     {
-        Reckoned { by }
+        faithful_to(by)
     }
 
     // Whether the year begins before the day.
