@@ -66,7 +66,8 @@ fn month_of<M: Months>(months: &M, nth: u16) -> u8
     }
 }
 
-// The theorem of arithmetic calendars, at the rule of a reckoning.
+// The theorem of arithmetic calendars, at the rule of a reckoning. It stands apart from `new` for the sake of the edit
+// `new-never-returns`: a function that has a proof file and calls itself is refused for the place of that file alone.
 fn faithful_to<R: Reckoning>(by: R) -> Reckoned<R>
     ensures same { result.by ≡ by }
     ensures faithful { Faithful (R.Reckoning.rule by) }
